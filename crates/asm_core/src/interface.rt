@@ -1,0 +1,69 @@
+use crate::{Duplicate, Items, Memory, RegSet};
+use std::alloc::Global;
+
+/// Whether an operand is written, read and written, or read (`=`, `+`, neither).
+#[derive(Clone, Copy, Debug, PartialEq, Eq)]
+pub enum Role {
+    Out,
+    InOut,
+    In,
+}
+
+/// What one alternative of a constraint allows.
+#[derive(Clone, Copy, Debug, PartialEq, Eq)]
+pub struct AltIface {
+    /// `&`: the output may be written before the inputs are read.
+    pub early: bool,
+    /// The number of the output that this input is tied to.
+    pub tied: Option<u8>,
+    pub regs: RegSet,
+    /// The pair edx:eax.
+    pub pair: bool,
+    pub mem: bool,
+    /// The least and the greatest number.
+    pub numbers: Option<(i64, i64)>,
+}
+
+#[derive(Debug, Drop)]
+pub struct OperandIface {
+    pub role: Role,
+    /// In bytes.
+    pub size: u32,
+    /// Whether the value is a pointer.
+    pub pointer: bool,
+    /// The value where it is known.
+    pub known: Option<i64>,
+    pub alts: Items<AltIface>,
+}
+
+/// What a statement tells the compiler of its operands and of what it changes.
+#[derive(Debug, Drop)]
+pub struct Interface {
+    pub operands: Items<OperandIface>,
+    pub clobbers: RegSet,
+    pub cc: bool,
+    pub memory: bool,
+}
+
+impl Duplicate for OperandIface {
+    fn duplicate(&self, alloc: Global) -> Result<Self, Memory> {
+        Ok(OperandIface {
+            role: self.role,
+            size: self.size,
+            pointer: self.pointer,
+            known: self.known,
+            alts: Items::from_slice(alloc, self.alts.as_slice())?,
+        })
+    }
+}
+
+impl Duplicate for Interface {
+    fn duplicate(&self, alloc: Global) -> Result<Self, Memory> {
+        Ok(Interface {
+            operands: crate::duplicate_items(alloc, self.operands.as_slice())?,
+            clobbers: self.clobbers,
+            cc: self.cc,
+            memory: self.memory,
+        })
+    }
+}

@@ -1,0 +1,34 @@
+use crate::Reg;
+
+/// The base register of an address.
+#[derive(Clone, Copy, Debug, PartialEq, Eq)]
+pub enum Base {
+    Esp,
+    Reg(Reg),
+}
+
+/// An address `disp(base,index,scale)`.
+#[derive(Clone, Copy, Debug, PartialEq, Eq)]
+pub struct Form {
+    pub disp: i64,
+    pub base: Option<Base>,
+    /// The index register and its scale: 1, 2, 4 or 8.
+    pub index: Option<(Reg, u8)>,
+}
+
+/// Where the compiler puts an operand.
+#[derive(Clone, Copy, Debug, PartialEq, Eq)]
+pub enum Spot {
+    Register(Reg),
+    /// edx:eax, for 8 bytes.
+    Pair,
+    Memory(Form),
+    Number(i64),
+}
+
+/// Where the compiler puts each operand. The first `count` are the operands' spots; the others mean nothing.
+#[derive(Clone, Copy, Debug)]
+pub struct Placement {
+    pub spots: [Spot; 30],
+    pub count: u8,
+}
