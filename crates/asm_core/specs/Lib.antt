@@ -1,3 +1,13 @@
-pub mod Reg
-pub mod Flag
+pub mod Entry
 pub mod Finding
+pub mod Flag
+pub mod Frame
+pub mod Interface
+pub mod Lists
+pub mod Machine
+pub mod Placement
+pub mod Reading
+pub mod Reg
+pub mod Rows
+pub mod Run
+pub mod Shape

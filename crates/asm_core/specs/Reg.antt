@@ -1,5 +1,5 @@
 -- The general registers in their order, and sets of them.
-use Rattle.std.specs.Prelude.{◌≡◌, ℕ, ◌/◌, ◌%◌, ◌^◌, List, [], ◌∷◌, codes}
+use Rattle.std.specs.Prelude.{◌≡◌, ℕ, ◌/◌, ◌%◌, ◌^◌, List, codes}
 use Rattle.asm_core.specs.declared.reg.Reg.{Reg}
 use Rattle.asm_core.specs.declared.reg.Reg.TheVariants.{Eax, Ebx, Ecx, Edx, Esi, Edi, Ebp}
 use Rattle.asm_core.specs.declared.reg.RegSet.{RegSet}
@@ -27,3 +27,10 @@ reg_name Ebp = codes "ebp"
 -- the register is in the set
 abbrev pub IsIn : RegSet → Reg → Type 0
 IsIn s r = s.0 / 2 ^ reg_number r % 2 ≡ 1
+
+-- all seven
+abbrev pub all_regs : RegSet
+all_regs = record { 0 = 127 }
+
+abbrev pub no_regs : RegSet
+no_regs = record { 0 = 0 }

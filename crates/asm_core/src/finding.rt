@@ -152,6 +152,13 @@ impl fmt::Display for Finding {
     ghost output = { λ finding. Some (finding_text finding) };
 
     fn fmt<W: fmt::Write>(&self, f: &mut fmt::Formatter<W>) -> fmt::Result {
-        write!(f, "{} at {}: {} {}", self.rule, Line(self.line), self.cell, self.other)
+        write!(
+            f,
+            "{} at {}: {} {}",
+            self.rule,
+            Line(self.line),
+            self.cell,
+            self.other
+        )
     }
 }
