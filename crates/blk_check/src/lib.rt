@@ -1,0 +1,2 @@
+//! Judges a statement: accepted, or the rules that it breaks.
+#![tactic(auto)]
