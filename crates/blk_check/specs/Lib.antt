@@ -1,2 +1,4 @@
 pub mod FirstForm
+pub mod Judged
+pub mod Proven
 pub mod Verdict

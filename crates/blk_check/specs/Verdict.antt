@@ -12,7 +12,7 @@ use Rattle.asm_core.specs.declared.finding.Rule.{Rule}
 use Rattle.asm_core.specs.declared.finding.Cell.{Cell}
 use Rattle.asm_core.specs.declared.finding.Finding.{Finding}
 use Rattle.asm_core.specs.declared.finding.TheConstants.{END_LINE}
-use Rattle.blk_check.specs.FirstForm.{source_in}
+use Rattle.blk_check.specs.FirstForm.{source_in, is_operand, is_mov}
 
 -- a place holds the value that operand k has at the entry, or another one
 pub data Value : Type 0 where
@@ -62,3 +62,11 @@ verdict_of i lines =
     let known = known_after lines in
     finding_if (is_input_alone (slice_get i.operands 0) && not (is_entry_value known.value)) (at_end Rule.W2 (Cell.Operand 0))
     ++ finding_if (not known.flags_kept && not i.cc) (at_end Rule.W3 Cell.Cc)
+
+-- by the text of the lines: the line moves operand 0 to itself
+abbrev pub moves_to_itself : Sym → Bool
+moves_to_itself line = is_mov line.op && is_operand 0 (source_in line)
+
+-- by the text of the lines: the line is a sum
+abbrev pub sets_flags : Sym → Bool
+sets_flags line = not (is_mov line.op)
