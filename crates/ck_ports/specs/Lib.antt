@@ -1,3 +1,4 @@
 pub mod Faults
 pub mod Outside
+pub mod ReadEnd
 pub mod Written

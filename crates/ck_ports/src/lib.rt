@@ -3,8 +3,12 @@
 
 mod files;
 mod port_end;
+mod read_end;
 mod sink;
+mod transfer;
 
 pub use files::{Files, Mode};
 pub use port_end::PortEnd;
+pub use read_end::ReadEnd;
 pub use sink::Sink;
+pub use transfer::{MAX_FILE_BYTES, read_all, write_all};
