@@ -1,6 +1,6 @@
 -- What stays while one file is read.
-use Rattle.std.proofs.Common.{◌≡◌, ℕ, List, ◌++◌, take, drop, unwrap_or, [], sym, ◌∙◌, ap, append_assoc}
-use Rattle.std.proofs.lemmas.List.{drop-drop, take-append-drop}
+use Rattle.std.proofs.Common.{◌≡◌, ℕ, List, ◌++◌, take, drop, unwrap_or, [], sym, ◌∙◌, ap, append_assoc, arith, Option, Some, None, IsSome, ◌≤◌, length}
+use Rattle.std.proofs.lemmas.List.{append-nil, drop-drop, take-append-drop}
 use Rattle.ck_ports.specs.declared.files.Mode.TheVariants.{Reading}
 use Rattle.ck_ports.specs.Faults.{CountsAt, RisesAt}
 use Rattle.ck_ports.specs.Outside.{Outside, SameFiles, ReadsNext, content_of, rest_of}
@@ -46,3 +46,8 @@ bytes_on first mid new n buffer bytes then next so_far =
   where
     left : drop n (rest_of mid) ≡ rest_of new
     left = drop-drop n mid.place (content_of mid) ∙ ap (λ i. drop i (content_of mid)) (sym next.place) ∙ ap (λ l. drop new.place l) (sym (same_content mid new then.open_name then.files))
+
+-- a file that is there and unchanged has a prefix of any piece appended: no byte
+pub prefix_none : (piece : List ℕ) (before after : Option (List ℕ)) → IsSome before → after ≡ before → (n : ℕ) × (n ≤ length piece) × (after ≡ Some (unwrap_or before [] ++ take n piece))
+prefix_none piece None after there same = (0, omega arith, cc)
+prefix_none piece (Some bytes) after there same = (0, omega arith, same ∙ ap (λ l. Some l) (sym (append-nil bytes)))

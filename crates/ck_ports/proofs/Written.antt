@@ -1,7 +1,7 @@
 -- Bytes written over several calls.
 use Rattle.std.proofs.Common.{◌≡◌, ℕ, ◌+◌, ◌-◌, ◌≤◌, List, ◌++◌, length, take, drop, sym, ◌∙◌, ap, arith, append_assoc, length-drop}
 use Rattle.std.proofs.Math.Seq.{take-add}
-use Rattle.std.proofs.lemmas.List.{take_all}
+use Rattle.std.proofs.lemmas.List.{append-nil, take_all}
 use Rattle.ck_ports.specs.Written.{Written, Writes, WritesPrefix}
 
 -- what is left of the bytes, as a range of them
@@ -24,3 +24,7 @@ pub prefix_on : (bytes : List ℕ) (done : ℕ) (old mid new : Written) → done
 prefix_on bytes done old mid new within before then =
     let fits : length (rest bytes done) ≡ length bytes - done = ap length (whole_rest bytes done) ∙ length-drop done bytes in
     (done + then.0, omega (arith, then.1, fits), writes_on bytes done then.0 old mid new before then.2)
+
+-- no byte was written
+pub prefix_none : (piece : List ℕ) (old new : Written) → new.bytes ≡ old.bytes → WritesPrefix piece old new
+prefix_none piece old new same = (0, omega arith, same ∙ sym (append-nil old.bytes))
