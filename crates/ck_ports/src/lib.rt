@@ -2,9 +2,12 @@
 #![tactic(auto)]
 
 mod calls;
+mod fault;
 mod fault_count;
 mod file_map;
 mod files;
+mod host_files;
+mod host_sink;
 mod mem_files;
 mod mem_sink;
 mod port_end;
@@ -13,9 +16,14 @@ mod sink;
 mod transfer;
 
 pub use files::{Files, Mode};
+pub use host_files::HostFiles;
+pub use host_sink::HostSink;
 pub use mem_files::MemFiles;
 pub use mem_sink::MemSink;
 pub use port_end::PortEnd;
 pub use read_end::ReadEnd;
 pub use sink::Sink;
 pub use transfer::{MAX_FILE_BYTES, read_all, write_all};
+
+#[cfg(test)]
+mod tests;

@@ -1,4 +1,5 @@
 use crate::calls::Calls;
+use crate::fault::fault;
 use crate::{PortEnd, Sink};
 use asm_core::Memory;
 use std::alloc::Global;
@@ -62,8 +63,7 @@ impl Sink for MemSink {
         ensures memory { IsErrOf result PortEnd.Memory → ¬ IsNextToFail (calls_of self.old) × (written_of self.new ≡ written_of self.old) }
     {
         if self.calls.next_fails() {
-            self.faults = self.faults.saturating_add(1);
-            return Err(PortEnd::Failed);
+            return Err(fault(&mut self.faults));
         }
         self.bytes.extend_from_slice(piece)?;
         Ok(piece.len())
