@@ -1,3 +1,12 @@
+pub mod Calls
+pub mod FaultCount
 pub mod Faults
+pub mod FileMap
+pub mod HostFiles
+pub mod HostSink
+pub mod MemFiles
+pub mod MemSink
 pub mod Outside
+pub mod ReadEnd
+pub mod Saturating
 pub mod Written

@@ -56,3 +56,13 @@ Appends bytes old new = new.file old.open_name ≡ Some (content_of old ++ bytes
 -- the open file ends with a prefix of these bytes after what it held
 abbrev pub AppendsPrefix : List ℕ → Outside → Outside → Type 0
 AppendsPrefix bytes old new = (n : ℕ) × (n ≤ length bytes) × Appends (take n bytes) old new
+
+-- nothing has changed
+pub record SameOutside (old new : Outside) : Type 0 where
+  pub mode : new.mode ≡ old.mode
+  pub reading : new.reading ≡ old.reading
+  pub writing : new.writing ≡ old.writing
+  pub tells : new.tells ≡ old.tells
+  pub files : SameFiles old new
+  pub open_name : new.open_name ≡ old.open_name
+  pub place : new.place ≡ old.place
