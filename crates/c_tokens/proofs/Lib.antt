@@ -1,0 +1,3 @@
+pub mod EndSteps
+pub mod PunctLemmas
+pub mod LineLemmas
