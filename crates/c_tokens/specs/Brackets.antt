@@ -20,6 +20,10 @@ closes b = (b == 41) || (b == 93) || (b == 125)
 abbrev pub partner_of : ℕ → ℕ
 partner_of b = if b == 41 then 40 else if b == 93 then 91 else if b == 125 then 123 else 0
 
+-- the bracket closes the innermost one that is open
+abbrev pub closes_last : List ℕ → List ℕ → ℕ → Bool
+closes_last text opened b = nat_lt 0 (length opened) && (slice_index text (slice_index opened (length opened - 1)) == partner_of b)
+
 abbrev pub first_of : List ℕ → Option ℕ
 first_of [] = None
 first_of (o ∷ os) = Some o
@@ -31,7 +35,7 @@ unbalanced_at text opened [] = first_of opened
 unbalanced_at text opened (t ∷ ts) =
     if opens (mark_of text t) then unbalanced_at text (opened ++ t.span.from ∷ []) ts
     else if closes (mark_of text t) then
-        (if nat_lt 0 (length opened) && (slice_index text (slice_index opened (length opened - 1)) == partner_of (mark_of text t))
+        (if closes_last text opened (mark_of text t)
             then unbalanced_at text (take (length opened - 1) opened) ts
             else Some t.span.from)
     else unbalanced_at text opened ts

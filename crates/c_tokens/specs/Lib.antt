@@ -4,3 +4,5 @@ pub mod Puncts
 pub mod Items
 pub mod Brackets
 pub mod Tokens
+pub mod Lines
+pub mod Splice
