@@ -5,3 +5,4 @@ pub mod BracketLemmas
 pub mod ScanLemmas
 pub mod PlaceLemmas
 pub mod SpliceLemmas
+pub mod StartLemmas

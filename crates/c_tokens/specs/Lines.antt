@@ -1,5 +1,5 @@
 -- Places in a text as people count them.
-use Rattle.std.specs.Prelude.{ℕ, List, ◌+◌, ◌==◌, not, take, count_by, length}
+use Rattle.std.specs.Prelude.{ℕ, List, [], ◌∷◌, ◌+◌, ◌==◌, if◌then◌else◌, not, take, count_by}
 use Rattle.std.specs.List.{suffix_len}
 
 -- the newlines before the offset
@@ -13,3 +13,12 @@ bytes_since_newline text offset = suffix_len (λ b. not (b == 10)) (take offset 
 -- Line and column, both counted from 1; a column is a number of bytes. This is this project's own rule.
 abbrev pub line_col_of : List ℕ → ℕ → ℕ × ℕ
 line_col_of text offset = (newlines_before text offset + 1, bytes_since_newline text offset + 1)
+
+-- where the lines of the bytes begin that follow a newline among them, `i` being the offset of the first
+unfoldable pub starts_after : ℕ → List ℕ → List ℕ
+starts_after i [] = []
+starts_after i (b ∷ bs) = if b == 10 then (i + 1) ∷ starts_after (i + 1) bs else starts_after (i + 1) bs
+
+-- where the lines of a text begin
+abbrev pub starts_of : List ℕ → List ℕ
+starts_of text = 0 ∷ starts_after 0 text

@@ -7,6 +7,7 @@ mod edits;
 mod ends;
 mod item;
 mod lexer;
+mod line_starts;
 mod lines;
 mod punctuator;
 
@@ -14,6 +15,7 @@ mod token;
 mod token_end;
 
 pub use lexer::tokens;
+pub use line_starts::LineStarts;
 pub use lines::line_col;
 pub use edits::splice;
 pub use token::{Token, TokenKind, Tokens};
