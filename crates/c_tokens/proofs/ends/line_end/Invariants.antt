@@ -1,0 +1,10 @@
+use Rattle.std.proofs.Common.{◌≡◌, ◌-◌, ◌≤◌, Bool, false, length, drop}
+use Rattle.c_tokens.specs.Ends.{line_end}
+use Rattle.c_tokens.proofs.ends.line_end.Given as goal
+
+-- what is left gives what the whole gives
+abbrev pub invariant-loop-i : goal.invariant-loop-i
+invariant-loop-i l = (l.start ≤ l.i) × (l.i ≤ length l.text) × (line_end l.spliced l.i (drop l.i l.text) ≡ line_end false l.start (drop l.start l.text))
+
+abbrev pub decreases-loop-i : goal.decreases-loop-i
+decreases-loop-i l = length l.text - l.i
