@@ -1,0 +1,6 @@
+pub mod Answer
+pub mod FirstFile
+pub mod Report
+pub mod Run
+pub mod Status
+pub mod Words

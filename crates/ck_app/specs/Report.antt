@@ -1,0 +1,43 @@
+-- The printed lines.
+use Rattle.std.specs.Prelude.{ℕ, List, [], ◌∷◌, ◌++◌, codes, decimal}
+use Rattle.std.specs.List.{flat_map}
+use Rattle.asm_core.specs.Finding.{finding_text, rule_phrase}
+use Rattle.asm_core.specs.declared.finding.Finding.{Finding}
+use Rattle.c_tokens.specs.Lines.{line_col_of}
+use Rattle.c_tokens.specs.declared.token_end.TokenEnd.{TokenEnd}
+
+-- as `a.c:1:20: `
+abbrev pub place_text : List ℕ → ℕ × ℕ → List ℕ
+place_text name place = name ++ codes ":" ++ decimal place.0 ++ codes ":" ++ decimal place.1 ++ codes ": "
+
+-- the line of one finding, as `a.c:1:20: broken W2 at end: %0 -: an input is changed`
+abbrev pub finding_line : List ℕ → Finding → List ℕ
+finding_line place f = place ++ codes "broken " ++ finding_text f ++ codes ": " ++ rule_phrase f.rule ++ codes "\n"
+
+-- the lines of a statement at that place, with what is wrong with it
+abbrev pub statement_lines : List ℕ → List Finding → List ℕ
+statement_lines place [] = place ++ codes "ok\n"
+statement_lines place (f ∷ fs) = flat_map (finding_line place) (f ∷ fs)
+
+abbrev pub cannot_be_read_line : List ℕ → List ℕ
+cannot_be_read_line name = name ++ codes ": cannot be read\n"
+
+abbrev pub too_large_line : List ℕ → List ℕ
+too_large_line name = name ++ codes ": too large\n"
+
+abbrev pub not_yet_line : List ℕ → List ℕ
+not_yet_line name = name ++ codes ": not yet\n"
+
+-- what a fault of a text is called, and its offset
+abbrev pub fault_of : TokenEnd → List ℕ × ℕ
+fault_of (TokenEnd.OpenString offset) = (codes "open string", offset)
+fault_of (TokenEnd.OpenComment offset) = (codes "open comment", offset)
+fault_of (TokenEnd.BadByte offset) = (codes "bad byte", offset)
+fault_of (TokenEnd.Unbalanced offset) = (codes "unbalanced bracket", offset)
+fault_of TokenEnd.Memory = ([], 0)
+
+-- as `a.c:1:8: bad text: open string at 7`
+abbrev pub bad_text_line : List ℕ → List ℕ → TokenEnd → List ℕ
+bad_text_line name text end =
+    let fault = fault_of end in
+    place_text name (line_col_of text fault.1) ++ codes "bad text: " ++ fault.0 ++ codes " at " ++ decimal fault.1 ++ codes "\n"

@@ -1,0 +1,43 @@
+ghost use Rattle.std.specs.Prelude.{◌≡◌};
+
+/// How a run ends.
+#[derive(Clone, Copy, Debug, PartialEq, Eq)]
+pub enum Status {
+    Done,
+    /// Some statement breaks a rule.
+    Rejected,
+    /// The words are of no known form.
+    Usage,
+    /// A file could not be read.
+    ReadFault,
+    /// A file or the output could not be written.
+    WriteFault,
+    /// A file is no text of C tokens.
+    BadText,
+    /// A file has more than 16 MiB.
+    TooLarge,
+    Memory,
+    /// A file holds what is not judged yet.
+    NotYet,
+}
+
+impl Status {
+    ghost use Rattle.ck_app.specs.Status.{code_of};
+
+    /// The exit status of the process.
+    pub fn code(&self) -> u8
+        ensures { result ≡ code_of self.now }
+    {
+        match self {
+            Status::Done => 0,
+            Status::Rejected => 1,
+            Status::Usage => 2,
+            Status::ReadFault => 4,
+            Status::WriteFault => 5,
+            Status::BadText => 6,
+            Status::TooLarge => 7,
+            Status::Memory => 8,
+            Status::NotYet => 10,
+        }
+    }
+}
