@@ -1,0 +1,4 @@
+pub mod RegisterLaws
+pub mod FlagLaws
+pub mod RowLaws
+pub mod Runs
