@@ -12,7 +12,7 @@ use Rattle.asm_core.specs.declared.finding.Rule.{Rule}
 use Rattle.asm_core.specs.declared.finding.Cell.{Cell}
 use Rattle.asm_core.specs.declared.finding.Finding.{Finding}
 use Rattle.asm_core.specs.declared.finding.TheConstants.{END_LINE}
-use Rattle.blk_check.specs.FirstForm.{source_in}
+use Rattle.blk_check.specs.FirstForm.{source_in, is_operand, is_mov}
 
 -- a place holds the value that operand k has at the entry, or another one
 pub data Value : Type 0 where
@@ -36,6 +36,10 @@ value_read held source = Value.Computed
 abbrev pub effect_on : Op → Option Arg → Known → Known
 effect_on Op.Mov source known = record known { value = value_read known.value source }
 effect_on Op.Add source known = record { value = Value.Computed; flags_kept = false }
+
+-- the line moves operand 0 to itself
+abbrev pub moves_to_itself : Sym → Bool
+moves_to_itself line = is_mov line.op && is_operand 0 (source_in line)
 
 -- what is known after the lines
 abbrev pub known_after : List Sym → Known
