@@ -1,2 +1,5 @@
+pub mod FormLaws
+pub mod KnownLaws
 mod Lines
 mod Numbers
+mod VerdictLaws

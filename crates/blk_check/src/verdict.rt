@@ -1,7 +1,7 @@
-ghost use Rattle.std.specs.Prelude.{◌≡◌, not, slice_get, IfOk};
+ghost use Rattle.std.specs.Prelude.{◌≡◌, ◌++◌, not, slice_get, IfOk, OnOk};
 ghost use Rattle.std.specs.List.{list_any};
-ghost use Rattle.blk_check.specs.Judged.{IsInForm, IsVerdict, IsFramed};
-ghost use Rattle.blk_check.specs.Verdict.{verdict_of, is_input_alone, at_end, moves_to_itself, sets_flags};
+ghost use Rattle.blk_check.specs.Judged.{IsInForm, IsVerdict, IsFramed, lines_in};
+ghost use Rattle.blk_check.specs.Verdict.{verdict_of, is_input_alone, finding_if, at_end, moves_to_itself, sets_flags};
 
 use crate::form::{first_form, reads};
 use asm_core::{Body, Cell, Duplicate, END_LINE, Finding, Interface, Items, Mark, Memory, Op, Role, Rule, Statement, Sym};
@@ -51,14 +51,11 @@ pub enum Verdict {
 /// Judges a statement in the form that is judged so far.
 pub fn check(alloc: Global, statement: &Statement, interface: &Interface) -> Result<Verdict, Memory>
     requires { IsInForm statement.now interface.now }
-    ensures verdict { IfOk result (IsVerdict statement.now interface.now) }
-    ensures frame { IfOk result IsFramed }
+    ensures { IfOk result (IsVerdict statement.now interface.now) }
 {
-    let lines = match &statement.body {
-        Body::Parts(parts) => first_form(alloc, parts)?,
-        Body::Outside(_) => None,
+    let Some(lines) = lines_in(alloc, statement)? else {
+        unreachable!()
     };
-    let Some(lines) = lines else { unreachable!() };
     let findings = findings(alloc, interface, lines.as_slice())?;
     if !findings.is_empty() {
         return Ok(Verdict::Broken(findings));
@@ -70,17 +67,35 @@ pub fn check(alloc: Global, statement: &Statement, interface: &Interface) -> Res
     }))
 }
 
+/// The lines of a statement in the form that is judged so far.
+fn lines_in(alloc: Global, statement: &Statement) -> Result<Option<Items<Sym>>, Memory>
+    ensures { IfOk result (λ lines. lines ≡ lines_in statement.now) }
+{
+    match &statement.body {
+        Body::Parts(parts) => first_form(alloc, parts),
+        Body::Outside(_) => Ok(None),
+    }
+}
+
+#[tactic(auto, using(crate::proofs::VerdictLaws::text_laws))]
 fn findings(alloc: Global, interface: &Interface, lines: &[Sym]) -> Result<Items<Finding>, Memory>
     ensures { IfOk result (λ findings. findings ≡ verdict_of interface.now lines.now) }
 {
+    let input_changed = is_input_alone(interface) && changes_operand(lines);
+    let flags_changed = changes_flags(lines) && !interface.cc;
     let mut findings = Items::new(alloc);
-    if is_input_alone(interface) && changes_operand(lines) {
-        findings.push(at_end(Rule::W2, Cell::Operand(0)))?;
-    }
-    if changes_flags(lines) && !interface.cc {
-        findings.push(at_end(Rule::W3, Cell::Cc))?;
-    }
+    push_if(&mut findings, input_changed, at_end(Rule::W2, Cell::Operand(0)))?;
+    push_if(&mut findings, flags_changed, at_end(Rule::W3, Cell::Cc))?;
     Ok(findings)
+}
+
+fn push_if(findings: &mut Items<Finding>, broken: bool, finding: Finding) -> Result<(), Memory>
+    ensures { OnOk result (findings.new ≡ findings.old ++ finding_if broken finding) }
+{
+    if broken {
+        findings.push(finding)?;
+    }
+    Ok(())
 }
 
 /// Whether operand 0 is an input alone.

@@ -1,6 +1,6 @@
-use Rattle.std.proofs.Common.{◌≡◌, ◌≢◌, ◌+◌, ◌-◌, ◌≤◌, ◌++◌, ◌∷◌, [], length, None, Some, sym, ◌∙◌, ap, arith, nat_eq}
-use Rattle.std.specs.Prelude.{slice_index, slice_range}
-use Rattle.blk_check.specs.FirstForm.{line_end, line_of, lines_from}
+use Rattle.std.proofs.Common.{◌≡◌, ◌≢◌, ◌+◌, ◌-◌, length, Some, sym, ◌∙◌, ap, arith}
+use Rattle.std.specs.Prelude.{slice_index}
+use Rattle.blk_check.specs.FirstForm.{line_end, lines_from}
 use Rattle.blk_check.proofs.Lines.{after, after-no_line, after-last_line, after-no_blank, after-next_line, after-limit}
 use Rattle.blk_check.proofs.form.read_lines.Goals as goal
 

@@ -1,0 +1,5 @@
+pub mod FlagLaws
+pub mod Keeping
+pub mod RegisterLaws
+pub mod RowLaws
+pub mod Runs
