@@ -1,17 +1,13 @@
 -- What the lines of a statement in the first form are.
-use Rattle.std.proofs.Common.{◌≡◌, ◌⊎◌, inl, inr, ⊎_elim, ℕ, zero, suc, ◌+◌, ◌-◌, ◌*◌, ◌≤◌, ◌==◌, nat_le, nat_lt, ◌&&◌, not, ℤ, pos, List, [], ◌∷◌, ◌++◌, map, length, drop, codes, Bool, true, false, IsTrue, Option, None, Some, option_map, slice_get, slice_index, slice_range, if◌then◌else◌, refl, ap, sym, subst, ◌∙◌, arith}
+use Rattle.std.proofs.Common.{◌≡◌, ◌⊎◌, inl, inr, ⊎_elim, ℕ, zero, suc, ◌+◌, ◌-◌, ◌*◌, ◌≤◌, ◌==◌, nat_le, nat_lt, ◌&&◌, pos, List, [], ◌∷◌, ◌++◌, map, length, drop, codes, Bool, true, false, Option, None, Some, option_map, slice_get, slice_index, slice_range, if◌then◌else◌, refl, sym, subst, arith}
 use Rattle.std.specs.Char.{is_ascii_digit}
-use Rattle.std.proofs.lemmas.Bool.{cases_Bool, leb-true}
-use Rattle.std.proofs.lemmas.Bool.Decides.{nat_tests}
+use Rattle.std.proofs.lemmas.Bool.{leb-true}
 use Rattle.asm_core.specs.Interface.{interface_of, register_operand}
-use Rattle.asm_core.specs.declared.reg.Slice.{Slice}
 use Rattle.asm_core.specs.declared.inst.Op.{Op}
 use Rattle.asm_core.specs.declared.inst.Width.{Width}
 use Rattle.asm_core.specs.declared.inst.Repeat.{Repeat}
-use Rattle.asm_core.specs.declared.sym.Place.{Place}
 use Rattle.asm_core.specs.declared.sym.Arg.{Arg}
 use Rattle.asm_core.specs.declared.sym.Sym.{Sym}
-use Rattle.asm_core.specs.declared.statement.Quoted.{Quoted}
 use Rattle.asm_core.specs.declared.statement.Part.{Part}
 use Rattle.asm_core.specs.declared.statement.Parts.{Parts}
 use Rattle.asm_core.specs.declared.interface.OperandIface.{OperandIface}
@@ -35,7 +31,7 @@ pub record AreFirstLines (lines : List Sym) : Type 0 where
   pub each : (k : ℕ) (line : Sym) → slice_get lines k ≡ Some line → IsFirstLine line
 
 -- both halves of a test that is passed
-both : (a b : Bool) → (a && b) ≡ true → (a ≡ true) × (b ≡ true)
+pub both : (a b : Bool) → (a && b) ≡ true → (a ≡ true) × (b ≡ true)
 both true b e = (refl, e)
 both false b e = cc
 
@@ -54,7 +50,8 @@ either_way : {A : Type 0} (b : Bool) (a : A) (o : Option A) (x : A) → (if b th
 either_way true a o x e = let same : x ≡ a = cc in inl same
 either_way false a o x e = inr e
 
-mapped : {A B : Type 0} (f : A → B) (o : Option A) (y : B) → option_map f o ≡ Some y → (x : A) × (o ≡ Some x) × (y ≡ f x)
+-- what a value that was mapped tells
+pub mapped : {A B : Type 0} (f : A → B) (o : Option A) (y : B) → option_map f o ≡ Some y → (x : A) × (o ≡ Some x) × (y ≡ f x)
 mapped f None y e = cc
 mapped f (Some x) y e = let same : y ≡ f x = cc in (x, refl, same)
 
