@@ -1,5 +1,6 @@
 -- Placements that are allowed, and some that break one rule.
-use Rattle.std.proofs.Common.{◌≡◌, ◌≢◌, ◌⊎◌, inl, inr, ℕ, zero, suc, ℤ, pos, List, [], ◌∷◌, ◌++◌, replicate, Bool, true, false, IsTrue, Option, None, Some, slice_get, refl, ap, sym, subst, subst₂, ◌∙◌, arith}
+use Rattle.std.proofs.Common.{◌≡◌, ◌≢◌, ◌⊎◌, inl, inr, ℕ, zero, suc, ℤ, pos, ◌≤ℤ◌, List, [], ◌∷◌, ◌++◌, replicate, Bool, true, false, IsTrue, Option, None, Some, slice_get, refl, ap, sym, subst, subst₂, ◌∙◌, arith}
+use Rattle.std.proofs.lemmas.Int.{ints}
 use Rattle.asm_core.specs.Lists.{IsMember}
 use Rattle.asm_core.specs.Reg.{all_regs, no_regs, IsIn}
 use Rattle.asm_core.specs.Interface.{any_register}
@@ -128,7 +129,11 @@ not_tied : IsAllowed (interface (operand Role.Out (any_register ∷ []) ∷ oper
 not_tied h = let same : Spot.Register Reg.Ebx ≡ Spot.Register Reg.Eax = h.ties 1 in cc
 
 -- `:"I"(x)`, a number from 0 to 31
-out_of_range : IsAllowed (interface (operand Role.In (record any_register { regs = no_regs; numbers = Some (pos 0, pos 31) } ∷ []) ∷ [])) (shape 0 (Kind.Number ∷ [])) (record { spots = replicate 30 (Spot.Number (pos 32)); count = 1 }) → ⊥
+abbrev small : AltIface
+small = record any_register { regs = no_regs; numbers = Some (pos 0, pos 31) }
+
+out_of_range : IsAllowed (interface (operand Role.In (small ∷ []) ∷ [])) (shape 0 (Kind.Number ∷ [])) (record { spots = replicate 30 (Spot.Number (pos 32)); count = 1 }) → ⊥
 out_of_range h =
-    let range = (h.fits 0 (operand Role.In (record any_register { regs = no_regs; numbers = Some (pos 0, pos 31) } ∷ [])) (record any_register { regs = no_regs; numbers = Some (pos 0, pos 31) }) Kind.Number (record { is_operand = refl; is_alternative = refl; is_kind = refl }) refl).within (pos 0, pos 31) refl in
-    ?
+    let fits = h.fits 0 (operand Role.In (small ∷ [])) small Kind.Number (record { is_operand = refl; is_alternative = refl; is_kind = refl }) refl in
+    let above : pos 32 ≤ℤ pos 31 = (fits.within (pos 0, pos 31) refl).1 in
+    omega (arith, ints)
