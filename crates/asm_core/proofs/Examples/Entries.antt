@@ -35,7 +35,7 @@ part constraint = record { name = None; constraint = quoted constraint; expr = n
 of_copying : interface_of (record { template = quoted []; outputs = part (codes "=r") ∷ []; inputs = part (codes "r") ∷ []; clobbers = []; colons = 2; last = 0; bad_template = None }) ≡ copying
 of_copying = refl
 
-all_below : (n : ℕ) (xs : List ℕ) → list_all (λ x. nat_lt x n) xs ≡ true → All (λ x. x < n) xs
+pub all_below : (n : ℕ) (xs : List ℕ) → list_all (λ x. nat_lt x n) xs ≡ true → All (λ x. x < n) xs
 all_below n xs e = λ k d h. ltb-true _ _ (AllPass-from_list_all (λ x. nat_lt x n) xs e k d h)
 
 pub fresh_is_machine : IsMachine fresh
