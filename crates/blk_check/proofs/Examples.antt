@@ -1,5 +1,5 @@
 -- Statements in the first form and their verdicts.
-use Rattle.std.proofs.Common.{◌≡◌, ℕ, ℤ, pos, List, [], ◌∷◌, ◌++◌, codes, replicate, true, false, Option, None, Some, refl}
+use Rattle.std.proofs.Common.{◌≡◌, ℕ, pos, List, [], ◌∷◌, codes, None, Some, refl}
 use Rattle.asm_core.specs.Interface.{interface_of}
 use Rattle.asm_core.specs.declared.span.Span.{Span}
 use Rattle.asm_core.specs.declared.inst.Op.{Op}
@@ -10,7 +10,6 @@ use Rattle.asm_core.specs.declared.statement.Part.{Part}
 use Rattle.asm_core.specs.declared.statement.Parts.{Parts}
 use Rattle.asm_core.specs.declared.finding.Rule.{Rule}
 use Rattle.asm_core.specs.declared.finding.Cell.{Cell}
-use Rattle.asm_core.specs.declared.finding.Finding.{Finding}
 use Rattle.blk_check.specs.FirstForm.{operand, line_with, line_of, lines_from, first_form_of}
 use Rattle.blk_check.specs.Verdict.{verdict_of}
 

@@ -1,5 +1,5 @@
 -- Bytes at the edges of two ranges that lie side by side, at 100 to 102 and at 103.
-use Rattle.std.proofs.Common.{◌≡◌, ℕ, ◌+◌, ◌*◌, List, [], ◌∷◌, true, false, None, refl}
+use Rattle.std.proofs.Common.{◌≡◌, [], ◌∷◌, true, false, None, refl}
 use Rattle.asm_core.specs.Machine.{covers, byte_at, layouts_of}
 use Rattle.asm_core.specs.Entry.{word_at}
 use Rattle.asm_core.specs.declared.machine.Range.{Range}

@@ -1,26 +1,19 @@
 -- A state in which `"=r"(y):"r"(x)` may begin, with both operands in eax and no memory.
-use Rattle.std.proofs.Common.{◌≡◌, ◌≢◌, ℕ, zero, suc, ◌+◌, ◌<◌, ◌≤◌, nat_lt, ℤ, pos, List, [], ◌∷◌, replicate, All, Bool, true, false, Option, None, Some, slice_get, slice_index_or, codes, refl, ap, sym, ◌∙◌, arith}
+use Rattle.std.proofs.Common.{◌≡◌, ℕ, zero, suc, ◌<◌, nat_lt, pos, List, [], ◌∷◌, replicate, All, true, None, slice_index_or, codes, refl, sym, ◌∙◌, arith}
 use Rattle.std.specs.List.{list_all}
 use Rattle.std.proofs.lemmas.Bool.{ltb-true}
 use Rattle.std.proofs.lemmas.List.Sums.{AllPass-from_list_all}
 use Rattle.asm_core.specs.Interface.{interface_of}
-use Rattle.asm_core.specs.Machine.{IsMachine, IsRange}
+use Rattle.asm_core.specs.Machine.{IsMachine}
 use Rattle.asm_core.specs.Placement.{spot_of}
-use Rattle.asm_core.specs.Entry.{IsEntry, HasObject}
+use Rattle.asm_core.specs.Entry.{IsEntry}
 use Rattle.asm_core.proofs.Examples.Machines.{fresh}
 use Rattle.asm_core.proofs.Examples.Placements.{copying, registers, in_eax}
 use Rattle.asm_core.specs.declared.span.Span.{Span}
 use Rattle.asm_core.specs.declared.statement.Quoted.{Quoted}
 use Rattle.asm_core.specs.declared.statement.Part.{Part}
-use Rattle.asm_core.specs.declared.statement.Parts.{Parts}
-use Rattle.asm_core.specs.declared.shape.Shape.{Shape}
-use Rattle.asm_core.specs.declared.interface.OperandIface.{OperandIface}
-use Rattle.asm_core.specs.declared.interface.Interface.{Interface}
 use Rattle.asm_core.specs.declared.placement.Form.{Form}
 use Rattle.asm_core.specs.declared.placement.Spot.{Spot}
-use Rattle.asm_core.specs.declared.placement.Placement.{Placement}
-use Rattle.asm_core.specs.declared.machine.Range.{Range}
-use Rattle.asm_core.specs.declared.machine.Machine.{Machine}
 
 abbrev nowhere : Span
 nowhere = record { from = 0; to = 0 }

@@ -1,5 +1,5 @@
 -- A state without memory.
-use Rattle.std.proofs.Common.{ℕ, List, [], ◌∷◌, replicate}
+use Rattle.std.proofs.Common.{[], ◌∷◌, replicate}
 use Rattle.asm_core.specs.declared.machine.Machine.{Machine}
 
 -- the registers hold 1 to 7, and esp is 4096

@@ -1,5 +1,5 @@
 -- Flags of sums, and numbers read to a width.
-use Rattle.std.proofs.Common.{◌≡◌, ℕ, ℤ, pos, negsuc, refl}
+use Rattle.std.proofs.Common.{◌≡◌, ℕ, pos, negsuc, refl}
 use Rattle.asm_core.specs.Rows.{flags_of_sum, modulo}
 use Rattle.asm_core.specs.Flag.{flag_set}
 use Rattle.asm_core.specs.declared.flag.FlagSet.{FlagSet}

@@ -1,5 +1,5 @@
 -- Runs of `movl $7,%eax; addl $5,%eax; movl %eax,%ebx`.
-use Rattle.std.proofs.Common.{◌≡◌, ℕ, ℤ, pos, List, [], ◌∷◌, false, Option, None, Some, refl}
+use Rattle.std.proofs.Common.{◌≡◌, pos, [], ◌∷◌, false, None, Some, refl}
 use Rattle.asm_core.specs.Rows.{flags_of_sum}
 use Rattle.asm_core.specs.Run.{Outcome, run_of}
 use Rattle.asm_core.specs.Flag.{flag_set}

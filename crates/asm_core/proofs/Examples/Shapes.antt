@@ -1,6 +1,6 @@
 -- Shapes in their order.
-use Rattle.std.proofs.Common.{◌≡◌, ℕ, ℤ, pos, List, [], ◌∷◌, true, false, Option, None, Some, refl}
-use Rattle.asm_core.specs.Reg.{all_regs, no_regs}
+use Rattle.std.proofs.Common.{◌≡◌, ℕ, pos, List, [], ◌∷◌, true, false, None, Some, refl}
+use Rattle.asm_core.specs.Reg.{no_regs}
 use Rattle.asm_core.specs.Interface.{any_register}
 use Rattle.asm_core.specs.Shape.{shapes_of}
 use Rattle.asm_core.specs.Placement.{tie_root}
