@@ -1,5 +1,5 @@
 -- Reading a register after one was written.
-use Rattle.std.proofs.Common.{◌≡◌, ◌≢◌, ℕ, List, [], ◌∷◌, slice_index_or, slice_index, slice_set, sym, ap, ◌∙◌, refl}
+use Rattle.std.proofs.Common.{◌≡◌, ℕ, [], ◌∷◌, slice_index_or, slice_set, sym, ap, ◌∙◌, refl}
 use Rattle.std.proofs.lemmas.List.{set-get_or, get_or-set_other}
 use Rattle.asm_core.specs.Reg.{reg_number}
 use Rattle.asm_core.specs.Machine.{reg_in, with_reg}

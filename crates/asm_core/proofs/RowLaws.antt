@@ -1,9 +1,9 @@
 -- What one instruction writes, and that its step changes nothing else.
-use Rattle.std.proofs.Common.{◌≡◌, ℕ, List, Bool, Option, None, Some, slice_set, slice_index, if◌then◌else◌, refl, ap, sym, subst₂}
+use Rattle.std.proofs.Common.{◌≡◌, ℕ, List, Option, None, Some, slice_index, if◌then◌else◌, refl, ap, sym, subst₂}
 use Rattle.asm_core.specs.Reg.{reg_number}
 use Rattle.asm_core.specs.Flag.{flag_in}
 use Rattle.asm_core.specs.Machine.{Location, Keeps, value_at, reg_in, with_reg}
-use Rattle.asm_core.specs.Rows.{Stepped, row_step, on_args, on_values, with_effect, effect_of, flags_of_sum, read_arg, arg_at}
+use Rattle.asm_core.specs.Rows.{Stepped, row_step, on_args, on_values, effect_of, read_arg, arg_at}
 use Rattle.asm_core.proofs.RegisterLaws.{other_reg_kept, own_value_kept}
 use Rattle.asm_core.proofs.FlagLaws.{sum_keeps_direction}
 use Rattle.asm_core.proofs.Runs.{HoldsAfter}

@@ -31,7 +31,7 @@ pub record AreFirstLines (lines : List Sym) : Type 0 where
   pub each : (k : ℕ) (line : Sym) → slice_get lines k ≡ Some line → IsFirstLine line
 
 -- both halves of a test that is passed
-both : (a b : Bool) → (a && b) ≡ true → (a ≡ true) × (b ≡ true)
+pub both : (a b : Bool) → (a && b) ≡ true → (a ≡ true) × (b ≡ true)
 both true b e = (refl, e)
 both false b e = cc
 
@@ -50,7 +50,8 @@ either_way : {A : Type 0} (b : Bool) (a : A) (o : Option A) (x : A) → (if b th
 either_way true a o x e = let same : x ≡ a = cc in inl same
 either_way false a o x e = inr e
 
-mapped : {A B : Type 0} (f : A → B) (o : Option A) (y : B) → option_map f o ≡ Some y → (x : A) × (o ≡ Some x) × (y ≡ f x)
+-- what a value that was mapped tells
+pub mapped : {A B : Type 0} (f : A → B) (o : Option A) (y : B) → option_map f o ≡ Some y → (x : A) × (o ≡ Some x) × (y ≡ f x)
 mapped f None y e = cc
 mapped f (Some x) y e = let same : y ≡ f x = cc in (x, refl, same)
 

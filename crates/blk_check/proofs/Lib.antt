@@ -1,4 +1,6 @@
+mod Examples
 pub mod FormLaws
+pub mod Frame
 pub mod KnownLaws
 mod Lines
 mod Numbers

@@ -1,0 +1,9 @@
+-- The definitions on worked examples. Expected values are worked out by hand from the instruction's description.
+mod Bytes
+mod Changing
+mod Entries
+mod Machines
+mod Numbers
+mod Placements
+mod Runs
+mod Shapes
