@@ -1,3 +1,4 @@
+mod Accepted
 mod Examples
 pub mod FormLaws
 pub mod Frame

@@ -12,8 +12,12 @@ use Rattle.blk_check.specs.Verdict.{verdict_of}
 use Rattle.blk_check.specs.declared.verdict.Verdict.{Verdict}
 
 -- the lines of a statement in the form that is judged so far
+abbrev pub lines_in_body : Body → Option (List Sym)
+lines_in_body (Body.Parts parts) = first_form_of parts
+lines_in_body (Body.Outside mark) = None
+
 abbrev pub lines_in : Statement → Option (List Sym)
-lines_in s = elim s.body [ Body.Parts parts ↦ first_form_of parts | Body.Outside mark ↦ None ]
+lines_in s = lines_in_body s.body
 
 -- the statement is in this form, and the interface is its own
 pub record IsInForm (s : Statement) (i : Interface) : Type 0 where

@@ -51,7 +51,8 @@ pub enum Verdict {
 /// Judges a statement in the form that is judged so far.
 pub fn check(alloc: Global, statement: &Statement, interface: &Interface) -> Result<Verdict, Memory>
     requires { IsInForm statement.now interface.now }
-    ensures { IfOk result (IsVerdict statement.now interface.now) }
+    ensures verdict { IfOk result (IsVerdict statement.now interface.now) }
+    ensures frame { IfOk result IsFramed }
 {
     let Some(lines) = lines_in(alloc, statement)? else {
         unreachable!()
