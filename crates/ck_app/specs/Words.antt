@@ -1,6 +1,7 @@
 -- What the words of a call ask for. The first word is the program's name.
 use Rattle.std.specs.Prelude.{ℕ, ◌==◌, ◌&&◌, not, List, [], ◌∷◌, codes, Option, None, Some, slice_index, if◌then◌else◌}
 use Rattle.blk_check.specs.FirstForm.{same_text}
+use Rattle.ck_app.specs.declared.words.Command.{Command as CheckedCommand}
 
 pub data Command : Type 0 where
   Check : (file : List ℕ) → Command
@@ -18,3 +19,7 @@ names_read (Some (Command.Check file)) = file ∷ []
 
 abbrev pub usage_line : List ℕ
 usage_line = codes "usage: asmck check FILE.. | patch IN OUT | lift IN OUT | try FILE K SEED STEPS | gen SEED COUNT\n"
+
+-- the command that code holds
+abbrev pub command_seen : CheckedCommand → Command
+command_seen (CheckedCommand.Check file) = Command.Check file.now

@@ -1,6 +1,6 @@
 ghost use Rattle.ck_ports.specs.declared.transfer.TheConstants.{MAX_FILE_BYTES};
-ghost use Rattle.std.specs.Prelude.{◌≡◌, ◌+◌, ◌<◌, ◌≤◌, ◌^◌, ◌==◌, [], ◌∷◌, length, position, option_map, IfOk, IfSome};
-ghost use Rattle.ck_app.specs.FirstFile.{statement_of, statement_with, tail_of, operands_of, cc_of, outputs_at, inputs_at, operands_end, clobbers_at, last_at, colons_of, quoted_at, part_at};
+ghost use Rattle.std.specs.Prelude.{◌≡◌, ◌+◌, ◌<◌, ◌≤◌, ◌^◌, ◌==◌, [], ◌∷◌, length, position, option_map, Some, IfOk, IfSome};
+ghost use Rattle.ck_app.specs.FirstFile.{statement_of, statement_after, statement_before, statement_with, tail_of, operands_of, cc_of, outputs_at, inputs_at, operands_end, clobbers_at, last_at, colons_of, quoted_at, part_at};
 
 use asm_core::{Body, Items, Memory, Part, Parts, Quoted, Span, Statement};
 use std::alloc::Global;
@@ -34,17 +34,34 @@ pub fn statement(alloc: Global, text: &[u8]) -> Result<Option<Statement>, Memory
     requires { length text.now ≤ MAX_FILE_BYTES }
     ensures { IfOk result (λ made. made ≡ statement_of text.now) }
 {
-    let Some(rest) = text.strip_prefix(b"int f(int x,int y){__asm__(\"") else {
-        return Ok(None);
-    };
-    let Some(length) = first_quote(rest) else {
-        return Ok(None);
-    };
-    let Some(tail) = read_tail(&rest[length..]) else {
-        return Ok(None);
-    };
-    let made = with_tail(alloc, &rest[..length], tail)?;
-    Ok(Some(made))
+    match text.strip_prefix(b"int f(int x,int y){__asm__(\"") {
+        Some(rest) => after_head(alloc, rest),
+        None => Ok(None),
+    }
+}
+
+/// The same for what follows the template's opening quote.
+fn after_head(alloc: Global, text: &[u8]) -> Result<Option<Statement>, Memory>
+    requires { length text.now ≤ MAX_FILE_BYTES }
+    ensures { IfOk result (λ made. made ≡ statement_after (Some text.now)) }
+{
+    match first_quote(text) {
+        Some(count) => at_quote(alloc, text, count),
+        None => Ok(None),
+    }
+}
+
+/// The same where the template has that many bytes.
+fn at_quote(alloc: Global, text: &[u8], count: usize) -> Result<Option<Statement>, Memory>
+    requires within { count ≤ length text.now }
+    requires small { length text.now ≤ MAX_FILE_BYTES }
+    ensures { IfOk result (λ made. made ≡ statement_before text.now (Some count)) }
+{
+    let (template, end) = text.split_at(count);
+    match read_tail(end) {
+        Some(tail) => Ok(Some(with_tail(alloc, template, tail)?)),
+        None => Ok(None),
+    }
 }
 
 fn first_quote(text: &[u8]) -> Option<usize>
@@ -182,6 +199,7 @@ fn part(alloc: Global, from: u32, constraint: &[u8]) -> Result<Part, Memory>
 }
 
 /// The literal that begins at an offset with its quote and stands for these bytes.
+#[tactic(auto, using(crate::proofs::Counting::counting))]
 fn quoted(alloc: Global, from: u32, bytes: &[u8]) -> Result<Quoted, Memory>
     requires { from + length bytes.now + 2 < 2 ^ 32 }
     ensures { IfOk result (λ made. made ≡ quoted_at from bytes.now) }

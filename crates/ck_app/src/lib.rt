@@ -2,6 +2,8 @@
 #![tactic(auto)]
 
 mod first_file;
+mod report;
 mod status;
+mod words;
 
 pub use status::Status;
