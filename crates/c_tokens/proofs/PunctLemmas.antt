@@ -31,10 +31,10 @@ begins_fits (w ∷ ws) [] h = cc
 begins_fits (w ∷ ws) (b ∷ bs) h = omega (arith, begins_fits ws bs (and_right (w == b) (begins ws bs) h))
 
 -- every word of the table has this length
-abbrev all_of_len : ℕ → List (List ℕ) → Bool
+abbrev pub all_of_len : ℕ → List (List ℕ) → Bool
 all_of_len k table = list_all (λ w. length w == k) table
 
-one_of_fits : (k : ℕ) (table : List (List ℕ)) (bs : List ℕ) → all_of_len k table ≡ true → one_of table bs ≡ true → k ≤ length bs
+pub one_of_fits : (k : ℕ) (table : List (List ℕ)) (bs : List ℕ) → all_of_len k table ≡ true → one_of table bs ≡ true → k ≤ length bs
 one_of_fits k [] bs a h = cc
 one_of_fits k (w ∷ ws) bs a h =
     elim (begins w bs) as (λ t. begins w bs ≡ t → (t || one_of ws bs) ≡ true → k ≤ length bs) [

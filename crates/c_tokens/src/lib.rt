@@ -20,3 +20,6 @@ pub use lines::line_col;
 pub use edits::splice;
 pub use token::{Token, TokenKind, Tokens};
 pub use token_end::TokenEnd;
+
+#[cfg(test)]
+mod tests;
