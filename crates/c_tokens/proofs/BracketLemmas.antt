@@ -11,8 +11,8 @@ bracket-none text opened ts k le = rw (drop_all k ts le) refl
 
 bracket-step : (text opened : List ℕ) (ts : List Token) (k : ℕ) (d : Token) → k < length ts
     → unbalanced_at text opened (drop k ts) ≡ cond (opens (mark_of text (get_or ts k d))) (unbalanced_at text (opened ++ (get_or ts k d).span.from ∷ []) (drop (k + 1) ts))
-        (cond (closes (mark_of text (get_or ts k d))) (cond (closes_last text opened (mark_of text (get_or ts k d))) (unbalanced_at text (take (length opened - 1) opened) (drop (k + 1) ts)) (Some (get_or ts k d).span.from))
-        (unbalanced_at text opened (drop (k + 1) ts)))
+    (cond (closes (mark_of text (get_or ts k d))) (cond (closes_last text opened (mark_of text (get_or ts k d))) (unbalanced_at text (take (length opened - 1) opened) (drop (k + 1) ts)) (Some (get_or ts k d).span.from))
+    (unbalanced_at text opened (drop (k + 1) ts)))
 unfolding unbalanced_at
 bracket-step text opened ts k d lt = rw (drop_more ts k d lt) refl
 

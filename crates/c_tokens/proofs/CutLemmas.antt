@@ -45,9 +45,9 @@ all_below (suc n) p = p n && all_below n p
 below : (n b : ℕ) (p : ℕ → Bool) → all_below n p ≡ true → b < n → p b ≡ true
 below zero b p a lt = absurd (omega arith)
 below (suc n) b p a lt = elim (cases_lt b n) [
-      inl less ↦ below n b p (and_right (p n) (all_below n p) a) less
-    | inr ge ↦ let same : b ≡ n = omega arith in rw same (and_left (p n) (all_below n p) a)
-    ]
+  | inl less ↦ below n b p (and_right (p n) (all_below n p) a) less
+  | inr ge ↦ let same : b ≡ n = omega arith in rw same (and_left (p n) (all_below n p) a)
+]
 
 known : (b : ℕ) → b < 128 → is_known b ≡ true
 known b lt = below 128 b is_known refl lt
@@ -65,8 +65,8 @@ bad b s n d q o =
     let low : b < 128 = leb-false 128 b (or_second _ (nat_le 128 b) n) in
     last (is_space b) (begins_name b) (is_digit b) (is_quote b) (one_of ones (b ∷ [])) (is_bad b) s n d q o (known b low)
   where
-  last : (s n d q o r : Bool) → s ≡ false → n ≡ false → d ≡ false → q ≡ false → o ≡ false → (s || n || d || q || o || r) ≡ true → r ≡ true
-  last s n d q o r e1 e2 e3 e4 e5 h = rw (e1, e2, e3, e4, e5) at h
+    last : (s n d q o r : Bool) → s ≡ false → n ≡ false → d ≡ false → q ≡ false → o ≡ false → (s || n || d || q || o || r) ≡ true → r ≡ true
+    last s n d q o r e1 e2 e3 e4 e5 h = rw (e1, e2, e3, e4, e5) at h
 
 above : (n : ℕ) → (n ≡ 0 → ⊥) → 0 < n
 above zero h = absurd (h refl)
@@ -76,94 +76,100 @@ word_law : (text : List ℕ) (i : ℕ) → i < length text → is_space (get_or 
 unfolding word_at
 word_law text i lt s q =
     elim (begins_name (get_or text i 0)) as (λ t. begins_name (get_or text i 0) ≡ t → ItemLaw text i (cond t (items.Piece Name (name_end text (i + 1))) (cond (begins_number text i) (items.Piece Number (number_end false (i + 1) (drop (i + 1) text))) (punctuator_item i (punctuator_len (drop i text)))))) [
-      true ↦ λ e. longest_name text i lt e
-    | false ↦ λ e. elim (begins_number text i) as (λ t. begins_number text i ≡ t → ItemLaw text i (cond t (items.Piece Number (number_end false (i + 1) (drop (i + 1) text))) (punctuator_item i (punctuator_len (drop i text))))) [
-        true ↦ λ f. longest_number text i lt f
-      | false ↦ λ f. punct_law (punctuator_len (drop i text)) (punctuator (drop i text)) e f
+      | true ↦ λ e. longest_name text i lt e
+      | false ↦ λ e. elim (begins_number text i) as (λ t. begins_number text i ≡ t → ItemLaw text i (cond t (items.Piece Number (number_end false (i + 1) (drop (i + 1) text))) (punctuator_item i (punctuator_len (drop i text))))) [
+        | true ↦ λ f. longest_number text i lt f
+        | false ↦ λ f. punct_law (punctuator_len (drop i text)) (punctuator (drop i text)) e f
       ] refl
     ] refl
   where
-  punct_law : (n : ℕ) → IsWord (drop i text) n → begins_name (get_or text i 0) ≡ false → begins_number text i ≡ false → ItemLaw text i (punctuator_item i n)
-  punct_law n w e f = elim (n == 0) as (λ t. (n == 0) ≡ t → ItemLaw text i (cond t items.BadByte (items.Piece Punct (i + n)))) [
-      true ↦ λ z.
-        let none = rw (drop_more text i 0 lt) at w.none (eqb-true n 0 z) in
-        bad (get_or text i 0) s e (or_first (is_digit (get_or text i 0)) _ f) q none
-    | false ↦ λ z.
-        let some : 0 < n = above n (eqb-false n 0 z) in
-        let size = length-drop i text in
-        let back : i + n - i ≡ n = omega arith in
-        record {
-          spelt = rw back (w.spelt some);
-          longest = λ later gt le. w.longest (later - i) (omega arith) (omega (arith, size));
-        }
+    punct_law : (n : ℕ) → IsWord (drop i text) n → begins_name (get_or text i 0) ≡ false → begins_number text i ≡ false → ItemLaw text i (punctuator_item i n)
+    punct_law n w e f = elim (n == 0) as (λ t. (n == 0) ≡ t → ItemLaw text i (cond t items.BadByte (items.Piece Punct (i + n)))) [
+      | true ↦ λ z.
+          let none = rw (drop_more text i 0 lt) at w.none (eqb-true n 0 z) in
+          bad (get_or text i 0) s e (or_first (is_digit (get_or text i 0)) _ f) q none
+      | false ↦ λ z.
+          let some : 0 < n = above n (eqb-false n 0 z) in
+          let size = length-drop i text in
+          let back : i + n - i ≡ n = omega arith in
+          record {
+            spelt = rw back (w.spelt some);
+            longest = λ later gt le. w.longest (later - i) (omega arith) (omega (arith, size));
+          }
     ] refl
 
 literal_law : (text : List ℕ) (i q : ℕ) → opening_at text i ≡ Some q → Opening text i q → ItemLaw text i (literal_at text q)
 unfolding literal_at
 literal_law text i q is o =
     elim (literal_end (get_or text q 0) false (q + 1) (drop (q + 1) text)) as (λ r. Closing (get_or text q 0) false (q + 1) (drop (q + 1) text) r → ItemLaw text i (closed_literal (get_or text q 0) r)) [
-      Some e ↦ λ c. longest_literal text i q e o c
-    | None ↦ λ c. open_literal text i q is o c
+      | Some e ↦ λ c. longest_literal text i q e o c
+      | None ↦ λ c. open_literal text i q is o c
     ] (closing (get_or text q 0) false (q + 1) (drop (q + 1) text))
 
 piece_law : (text : List ℕ) (i : ℕ) → i < length text → is_space (get_or text i 0) ≡ false → ItemLaw text i (piece_at text i)
 unfolding piece_at
 piece_law text i lt s =
     elim (opening_at text i) as (λ r. opening_at text i ≡ r → Opens text i r → ItemLaw text i (literal_or_word text i r)) [
-      Some q ↦ λ is o. literal_law text i q is o
-    | None ↦ λ is o. word_law text i lt s o
+      | Some q ↦ λ is o. literal_law text i q is o
+      | None ↦ λ is o. word_law text i lt s o
     ] refl (opening text i lt)
 
 inside : (text : List ℕ) (k b : ℕ) → (get_or text k 0 == b) ≡ true → 0 < b → k < length text
 inside text k b e some = elim (cases_lt k (length text)) [
-      inl lt ↦ lt
-    | inr ge ↦ let is = eqb-true (get_or text k 0) b e in let none = past text k ge in absurd (omega (arith, is, none))
-    ]
+  | inl lt ↦ lt
+  | inr ge ↦ let is = eqb-true (get_or text k 0) b e in let none = past text k ge in absurd (omega (arith, is, none))
+]
 
 pub item_law : (text : List ℕ) (i : ℕ) → i < length text → ItemLaw text i (item_at text i)
 unfolding item_at
 item_law text i lt =
     elim (is_space (get_or text i 0)) as (λ t. is_space (get_or text i 0) ≡ t → ItemLaw text i (cond t (items.White (i + 1)) (behind_space))) [
-      true ↦ λ e. space i e
-    | false ↦ λ s. elim (is_pair_at text i 92 10) as (λ t. is_pair_at text i 92 10 ≡ t → ItemLaw text i (cond t (items.White (i + 2)) behind_splice)) [
-        true ↦ λ e. splice i e
-      | false ↦ λ _. elim (is_pair_at text i 47 42) as (λ t. is_pair_at text i 47 42 ≡ t → ItemLaw text i (cond t (closed_comment (comment_end (i + 2) (drop (i + 2) text))) behind_comment)) [
-          true ↦ λ e. comment_law e (comment_end (i + 2) (drop (i + 2) text)) (comment_ends text (length text) (i + 2) (omega arith))
-        | false ↦ λ _. elim (is_pair_at text i 47 47) as (λ t. is_pair_at text i 47 47 ≡ t → ItemLaw text i (cond t (items.White (line_end false (i + 2) (drop (i + 2) text))) behind_line)) [
-            true ↦ λ e. line_law e
-          | false ↦ λ _. elim ((get_or text i 0 == 35) && opens_line text i) as (λ t. ((get_or text i 0 == 35) && opens_line text i) ≡ t → ItemLaw text i (cond t (items.White (line_end false (i + 1) (drop (i + 1) text))) (piece_at text i))) [
-              true ↦ λ e. directive_law e
-            | false ↦ λ _. piece_law text i lt s
+      | true ↦ λ e. space i e
+      | false ↦ λ s. elim (is_pair_at text i 92 10) as (λ t. is_pair_at text i 92 10 ≡ t → ItemLaw text i (cond t (items.White (i + 2)) behind_splice)) [
+        | true ↦ λ e. splice i e
+        | false ↦ λ _. elim (is_pair_at text i 47 42) as (λ t. is_pair_at text i 47 42 ≡ t → ItemLaw text i (cond t (closed_comment (comment_end (i + 2) (drop (i + 2) text))) behind_comment)) [
+          | true ↦ λ e. comment_law e (comment_end (i + 2) (drop (i + 2) text)) (comment_ends text (length text) (i + 2) (omega arith))
+          | false ↦ λ _. elim (is_pair_at text i 47 47) as (λ t. is_pair_at text i 47 47 ≡ t → ItemLaw text i (cond t (items.White (line_end false (i + 2) (drop (i + 2) text))) behind_line)) [
+            | true ↦ λ e. line_law e
+            | false ↦ λ _. elim ((get_or text i 0 == 35) && opens_line text i) as (λ t. ((get_or text i 0 == 35) && opens_line text i) ≡ t → ItemLaw text i (cond t (items.White (line_end false (i + 1) (drop (i + 1) text))) (piece_at text i))) [
+              | true ↦ λ e. directive_law e
+              | false ↦ λ _. piece_law text i lt s
             ] refl
           ] refl
         ] refl
       ] refl
     ] refl
   where
-  behind_line : Item
-  behind_line = cond ((get_or text i 0 == 35) && opens_line text i) (items.White (line_end false (i + 1) (drop (i + 1) text))) (piece_at text i)
-  behind_comment : Item
-  behind_comment = cond (is_pair_at text i 47 47) (items.White (line_end false (i + 2) (drop (i + 2) text))) behind_line
-  behind_splice : Item
-  behind_splice = cond (is_pair_at text i 47 42) (closed_comment (comment_end (i + 2) (drop (i + 2) text))) behind_comment
-  behind_space : Item
-  behind_space = cond (is_pair_at text i 92 10) (items.White (i + 2)) behind_splice
-  comment_law : is_pair_at text i 47 42 ≡ true → (r : Option ℕ) → CommentEnds text (i + 2) r → ItemLaw text i (closed_comment r)
-  comment_law e (Some end) c = comment i end e c
-  comment_law e None c = record { opens = e; unclosed = c }
-  line_law : is_pair_at text i 47 47 ≡ true → IsWhitePiece text i (line_end false (i + 2) (drop (i + 2) text))
-  line_law e =
-    let slash = and_right (get_or text i 0 == 47) (get_or text (i + 1) 0 == 47) e in
-    let there = inside text (i + 1) 47 slash (omega arith) in
-    let back : i + 2 - 1 ≡ i + 1 = omega arith in
-    let flag : Spliced text (i + 2) false = rw (back, eqb-true (get_or text (i + 1) 0) 47 slash) refl in
-    line_comment i _ e (line_ends text (length text - (i + 2)) (i + 2) false (omega arith) flag)
-  directive_law : ((get_or text i 0 == 35) && opens_line text i) ≡ true → IsWhitePiece text i (line_end false (i + 1) (drop (i + 1) text))
-  directive_law e =
-    let hash = eqb-true (get_or text i 0) 35 (and_left (get_or text i 0 == 35) (opens_line text i) e) in
-    let back : i + 1 - 1 ≡ i = omega arith in
-    let flag : Spliced text (i + 1) false = rw (back, hash) refl in
-    directive i _ hash (and_right (get_or text i 0 == 35) (opens_line text i) e) (line_ends text (length text - (i + 1)) (i + 1) false (omega arith) flag)
+    behind_line : Item
+    behind_line = cond ((get_or text i 0 == 35) && opens_line text i) (items.White (line_end false (i + 1) (drop (i + 1) text))) (piece_at text i)
+
+    behind_comment : Item
+    behind_comment = cond (is_pair_at text i 47 47) (items.White (line_end false (i + 2) (drop (i + 2) text))) behind_line
+
+    behind_splice : Item
+    behind_splice = cond (is_pair_at text i 47 42) (closed_comment (comment_end (i + 2) (drop (i + 2) text))) behind_comment
+
+    behind_space : Item
+    behind_space = cond (is_pair_at text i 92 10) (items.White (i + 2)) behind_splice
+
+    comment_law : is_pair_at text i 47 42 ≡ true → (r : Option ℕ) → CommentEnds text (i + 2) r → ItemLaw text i (closed_comment r)
+    comment_law e (Some end) c = comment i end e c
+    comment_law e None c = record { opens = e; unclosed = c }
+
+    line_law : is_pair_at text i 47 47 ≡ true → IsWhitePiece text i (line_end false (i + 2) (drop (i + 2) text))
+    line_law e =
+        let slash = and_right (get_or text i 0 == 47) (get_or text (i + 1) 0 == 47) e in
+        let there = inside text (i + 1) 47 slash (omega arith) in
+        let back : i + 2 - 1 ≡ i + 1 = omega arith in
+        let flag : Spliced text (i + 2) false = rw (back, eqb-true (get_or text (i + 1) 0) 47 slash) refl in
+        line_comment i _ e (line_ends text (length text - (i + 2)) (i + 2) false (omega arith) flag)
+
+    directive_law : ((get_or text i 0 == 35) && opens_line text i) ≡ true → IsWhitePiece text i (line_end false (i + 1) (drop (i + 1) text))
+    directive_law e =
+        let hash = eqb-true (get_or text i 0) 35 (and_left (get_or text i 0 == 35) (opens_line text i) e) in
+        let back : i + 1 - 1 ≡ i = omega arith in
+        let flag : Spliced text (i + 1) false = rw (back, hash) refl in
+        directive i _ hash (and_right (get_or text i 0 == 35) (opens_line text i) e) (line_ends text (length text - (i + 1)) (i + 1) false (omega arith) flag)
 
 white_ends : (text : List ℕ) (from i e : ℕ) → IsWhite text from i → IsWhitePiece text i e → IsWhite text from e
 white_ends text from i e (none _) p = more from e e p (none e)
@@ -202,11 +208,11 @@ at_start text list empty =
 
 pub at_white : (text : List ℕ) (list : List Token) (i e : ℕ) → IsScanned text list i → i < length text → items.White e ≡ item_at text i → i < e → e ≤ length text → IsScanned text list e
 at_white text list i e s lt is further le = record {
-    within = le;
-    same = ap (after list) (sym (on-white text i e lt (sym is) further le)) ∙ s.same;
-    cut = cut_white text 0 i e list s.cut (law_at text i (items.White e) lt is);
-    ordered = order_further 0 i e list s.ordered (omega arith);
-  }
+  within = le;
+  same = ap (after list) (sym (on-white text i e lt (sym is) further le)) ∙ s.same;
+  cut = cut_white text 0 i e list s.cut (law_at text i (items.White e) lt is);
+  ordered = order_further 0 i e list s.ordered (omega arith);
+}
 
 pub at_piece : (text : List ℕ) (list later : List Token) (t : Token) (i e : ℕ) (k : TokenKind) → IsScanned text list i → i < length text → items.Piece k e ≡ item_at text i → i < e → e ≤ length text
     → t ≡ token k i e → later ≡ list ++ t ∷ [] → IsScanned text later e
@@ -239,11 +245,11 @@ at_end text list i s ge =
 -- from the scan to the whole
 pub unbalanced_law : (text : List ℕ) (ts : List Token) (o : ℕ) → ExplainsScan text (Ok ts) → Some o ≡ unbalanced_at text [] ts → IsUnbalanced text o
 unbalanced_law text ts o h is = record {
-    list = ts;
-    cut = h.0;
-    first = sym is;
-    unbalanced = λ b. let none = is ∙ none_if_balanced text ts b in cc;
-  }
+  list = ts;
+  cut = h.0;
+  first = sym is;
+  unbalanced = λ b. let none = is ∙ none_if_balanced text ts b in cc;
+}
 
 pub balanced_law : (text : List ℕ) (ts : List Token) → ExplainsScan text (Ok ts) → None ≡ unbalanced_at text [] ts → IsCut text 0 ts (length text) × IsBalanced text ts
 balanced_law text ts h is = (h.0, balanced_if_none text ts (sym is))

@@ -22,8 +22,8 @@ pub ruleset number_steps = (number_end-step, number_end-done)
 
 pub literal_end-step : (q : ℕ) (taken : Bool) (text : List ℕ) (i : ℕ) → i < length text
     → literal_end q taken i (drop i text) ≡ cond taken (literal_end q false (i + 1) (drop (i + 1) text))
-        (cond (get_or text i 0 == q) (Some (i + 1)) (cond (get_or text i 0 == 92) (literal_end q true (i + 1) (drop (i + 1) text))
-        (cond (get_or text i 0 == 10) None (literal_end q false (i + 1) (drop (i + 1) text)))))
+    (cond (get_or text i 0 == q) (Some (i + 1)) (cond (get_or text i 0 == 92) (literal_end q true (i + 1) (drop (i + 1) text))
+    (cond (get_or text i 0 == 10) None (literal_end q false (i + 1) (drop (i + 1) text)))))
 unfolding literal_end
 literal_end-step q taken text i lt = rw (drop_more text i 0 lt) refl
 
@@ -69,7 +69,7 @@ pub ruleset comment_steps = (comment_end-step, comment_end-done)
 
 pub line_end-step : (s : Bool) (text : List ℕ) (i : ℕ) → i < length text
     → line_end s i (drop i text) ≡ cond s (line_end (get_or text i 0 == 92) (i + 1) (drop (i + 1) text))
-        (cond (get_or text i 0 == 10) i (line_end (get_or text i 0 == 92) (i + 1) (drop (i + 1) text)))
+    (cond (get_or text i 0 == 10) i (line_end (get_or text i 0 == 92) (i + 1) (drop (i + 1) text)))
 unfolding line_end
 line_end-step s text i lt = rw (drop_more text i 0 lt) refl
 

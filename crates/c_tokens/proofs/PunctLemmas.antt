@@ -38,20 +38,20 @@ pub one_of_fits : (k : ℕ) (table : List (List ℕ)) (bs : List ℕ) → all_of
 one_of_fits k [] bs a h = cc
 one_of_fits k (w ∷ ws) bs a h =
     elim (begins w bs) as (λ t. begins w bs ≡ t → (t || one_of ws bs) ≡ true → k ≤ length bs) [
-      true ↦ λ e _. let same : length w ≡ k = eqb-true (length w) k (and_left (length w == k) (all_of_len k ws) a) in omega (arith, begins_fits w bs e)
-    | false ↦ λ _ more. one_of_fits k ws bs (and_right (length w == k) (all_of_len k ws) a) more
+      | true ↦ λ e _. let same : length w ≡ k = eqb-true (length w) k (and_left (length w == k) (all_of_len k ws) a) in omega (arith, begins_fits w bs e)
+      | false ↦ λ _ more. one_of_fits k ws bs (and_right (length w == k) (all_of_len k ws) a) more
     ] refl h
 
 len_fits : (bs : List ℕ) → punctuator_len bs ≤ length bs
 unfolding punctuator_len
 len_fits bs =
     elim (one_of threes bs) as (λ t. one_of threes bs ≡ t → cond t 3 (cond (one_of twos bs) 2 (cond (one_of ones bs) 1 0)) ≤ length bs) [
-      true ↦ λ h. one_of_fits 3 threes bs refl h
-    | false ↦ λ _. elim (one_of twos bs) as (λ t. one_of twos bs ≡ t → cond t 2 (cond (one_of ones bs) 1 0) ≤ length bs) [
-        true ↦ λ h. one_of_fits 2 twos bs refl h
-      | false ↦ λ _. elim (one_of ones bs) as (λ t. one_of ones bs ≡ t → cond t 1 0 ≤ length bs) [
-          true ↦ λ h. one_of_fits 1 ones bs refl h
-        | false ↦ λ _. omega arith
+      | true ↦ λ h. one_of_fits 3 threes bs refl h
+      | false ↦ λ _. elim (one_of twos bs) as (λ t. one_of twos bs ≡ t → cond t 2 (cond (one_of ones bs) 1 0) ≤ length bs) [
+        | true ↦ λ h. one_of_fits 2 twos bs refl h
+        | false ↦ λ _. elim (one_of ones bs) as (λ t. one_of ones bs ≡ t → cond t 1 0 ≤ length bs) [
+          | true ↦ λ h. one_of_fits 1 ones bs refl h
+          | false ↦ λ _. omega arith
         ] refl
       ] refl
     ] refl

@@ -29,17 +29,17 @@ earlier text i (Some e) absent rest =
 pub comment_ends : (text : List ℕ) (n i : ℕ) → length text ≤ i + n → CommentEnds text i (comment_end i (drop i text))
 comment_ends text zero i le = rw (comment_end-done text i (omega arith)) (λ k ge. rw (past text k (omega arith)) refl)
 comment_ends text (suc n) i le = elim (cases_lt i (length text)) [
-      inr ge ↦ rw (comment_end-done text i ge) (λ k above. rw (past text k (omega arith)) refl)
-    | inl lt ↦ rw (comment_end-step text i lt) (
-        elim (is_pair_at text i 42 47) as (λ t. is_pair_at text i 42 47 ≡ t → CommentEnds text i (cond t (Some (i + 2)) (comment_end (i + 1) (drop (i + 1) text)))) [
-          true ↦ λ e. record {
-            long_enough = omega arith;
-            closed = let back : i + 2 - 2 ≡ i = omega arith in rw back e;
-            first = λ k ge below. absurd (omega arith);
-          }
+  | inr ge ↦ rw (comment_end-done text i ge) (λ k above. rw (past text k (omega arith)) refl)
+  | inl lt ↦ rw (comment_end-step text i lt) (
+      elim (is_pair_at text i 42 47) as (λ t. is_pair_at text i 42 47 ≡ t → CommentEnds text i (cond t (Some (i + 2)) (comment_end (i + 1) (drop (i + 1) text)))) [
+        | true ↦ λ e. record {
+          long_enough = omega arith;
+          closed = let back : i + 2 - 2 ≡ i = omega arith in rw back e;
+          first = λ k ge below. absurd (omega arith);
+        }
         | false ↦ λ e. earlier text i (comment_end (i + 1) (drop (i + 1) text)) e (comment_ends text n (i + 1) (omega arith))
-        ] refl)
-    ]
+      ] refl)
+]
 
 -- a flag tells whether the byte before is a backslash
 abbrev pub Spliced : List ℕ → ℕ → Bool → Type 0
@@ -60,21 +60,27 @@ next_flag text i = let back : i + 1 - 1 ≡ i = omega arith in rw back refl
 
 pub line_ends : (text : List ℕ) (n i : ℕ) (s : Bool) → i + n ≡ length text → Spliced text i s → IsLineEnd text i (line_end s i (drop i text))
 line_ends text zero i s le flag = rw (line_end-done s text i (omega arith)) (record {
-      behind = omega arith; inside = omega arith; first = λ k ge lt. absurd (omega arith); ends = inl (omega arith) })
+  behind = omega arith;
+  inside = omega arith;
+  first = λ k ge lt. absurd (omega arith);
+  ends = inl (omega arith);
+})
 line_ends text (suc n) i s le flag =
     let lt : i < length text = omega arith in
     let rest = line_ends text n (i + 1) (get_or text i 0 == 92) (omega arith) (next_flag text i) in
     rw (line_end-step s text i lt) (
-      elim s as (λ t. s ≡ t → IsLineEnd text i (cond t (line_end (get_or text i 0 == 92) (i + 1) (drop (i + 1) text)) (cond (get_or text i 0 == 10) i (line_end (get_or text i 0 == 92) (i + 1) (drop (i + 1) text))))) [
-        true ↦ λ e. onward text i _ (λ ends. ends.unspliced (eqb-true _ _ (sym flag ∙ e))) rest
+    elim s as (λ t. s ≡ t → IsLineEnd text i (cond t (line_end (get_or text i 0 == 92) (i + 1) (drop (i + 1) text)) (cond (get_or text i 0 == 10) i (line_end (get_or text i 0 == 92) (i + 1) (drop (i + 1) text))))) [
+      | true ↦ λ e. onward text i _ (λ ends. ends.unspliced (eqb-true _ _ (sym flag ∙ e))) rest
       | false ↦ λ e. elim (get_or text i 0 == 10) as (λ t. (get_or text i 0 == 10) ≡ t → IsLineEnd text i (cond t i (line_end (get_or text i 0 == 92) (i + 1) (drop (i + 1) text)))) [
-          true ↦ λ f. record {
-            behind = omega arith; inside = omega arith; first = λ k ge below. absurd (omega arith);
-            ends = inr (record { newline = eqb-true _ _ f; unspliced = λ back. differ 92 (rw back at (sym flag ∙ e)) });
-          }
+        | true ↦ λ f. record {
+          behind = omega arith;
+          inside = omega arith;
+          first = λ k ge below. absurd (omega arith);
+          ends = inr (record { newline = eqb-true _ _ f; unspliced = λ back. differ 92 (rw back at (sym flag ∙ e)) });
+        }
         | false ↦ λ f. onward text i _ (λ ends. differ 10 (rw ends.newline at f)) rest
-        ] refl
-      ] refl)
+      ] refl
+    ] refl)
   where
-  differ : (n : ℕ) → (n == n) ≡ false → ⊥
-  differ n e = absurd (grind (arith, nat_tests))
+    differ : (n : ℕ) → (n == n) ≡ false → ⊥
+    differ n e = absurd (grind (arith, nat_tests))

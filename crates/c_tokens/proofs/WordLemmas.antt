@@ -26,16 +26,16 @@ word_there k (w ∷ ws) bs a h =
     let cut : length (take k bs) ≡ k = length-take-le k bs fits in
     let size : length w ≡ k = eqb-true (length w) k (and_left (length w == k) (all_of_len k ws) a) in
     elim (begins w bs) as (λ t. begins w bs ≡ t → (t || one_of ws bs) ≡ true → is_word_of (w ∷ ws) (take k bs) ≡ true) [
-      true ↦ λ e _.
-        let same : (length w == length (take k bs)) ≡ true = eq-eqb _ _ (size ∙ sym cut) in
-        let whole : begins w (take k bs) ≡ true = let P : ℕ → Type 0 = λ n. begins w (take n bs) ≡ true in subst P size (begins_take w bs e) in
-        rw (same, whole) refl
-    | false ↦ λ _ more. let rest = word_there k ws bs (and_right (length w == k) (all_of_len k ws) a) more in or_right _ _ rest
+      | true ↦ λ e _.
+          let same : (length w == length (take k bs)) ≡ true = eq-eqb _ _ (size ∙ sym cut) in
+          let whole : begins w (take k bs) ≡ true = let P : ℕ → Type 0 = λ n. begins w (take n bs) ≡ true in subst P size (begins_take w bs e) in
+          rw (same, whole) refl
+      | false ↦ λ _ more. let rest = word_there k ws bs (and_right (length w == k) (all_of_len k ws) a) more in or_right _ _ rest
     ] refl h
   where
-  or_right : (x y : Bool) → y ≡ true → (x || y) ≡ true
-  or_right true y h = refl
-  or_right false y h = h
+    or_right : (x y : Bool) → y ≡ true → (x || y) ≡ true
+    or_right true y h = refl
+    or_right false y h = h
 
 or_first : (x y : Bool) → (x || y) ≡ false → x ≡ false
 or_first true y h = h
@@ -52,10 +52,10 @@ word_gone k (w ∷ ws) bs m a le h =
     let size : length w ≡ k = eqb-true (length w) k (and_left (length w == k) (all_of_len k ws) a) in
     let rest = word_gone k ws bs m (and_right (length w == k) (all_of_len k ws) a) le (λ e. or_second (begins w bs) (one_of ws bs) (h e)) in
     elim (length w == length (take m bs)) as (λ t. (length w == length (take m bs)) ≡ t → ((t && begins w (take m bs)) || is_word_of ws (take m bs)) ≡ false) [
-      true ↦ λ e.
-        let is : m ≡ k = sym cut ∙ sym (eqb-true _ _ e) ∙ size in
-        rw (begins_more w bs m (or_first (begins w bs) (one_of ws bs) (h is))) rest
-    | false ↦ λ _. rest
+      | true ↦ λ e.
+          let is : m ≡ k = sym cut ∙ sym (eqb-true _ _ e) ∙ size in
+          rw (begins_more w bs m (or_first (begins w bs) (one_of ws bs) (h is))) rest
+      | false ↦ λ _. rest
     ] refl
 
 -- the bytes of this length are a punctuator, and no more are
@@ -71,24 +71,24 @@ pub punctuator : (bs : List ℕ) → IsWord bs (punctuator_len bs)
 unfolding punctuator_len
 punctuator bs =
     elim (one_of threes bs) as (λ t. one_of threes bs ≡ t → IsWord bs (cond t 3 (cond (one_of twos bs) 2 (cond (one_of ones bs) 1 0)))) [
-      true ↦ λ a. record {
+      | true ↦ λ a. record {
         spelt = λ lt. rw (word_there 3 threes bs refl a) refl;
         longest = λ m lt le. gone bs m le (λ e. absurd (omega arith)) (λ e. absurd (omega arith)) (λ e. absurd (omega arith));
         none = λ e. absurd (omega arith);
       }
-    | false ↦ λ a. elim (one_of twos bs) as (λ t. one_of twos bs ≡ t → IsWord bs (cond t 2 (cond (one_of ones bs) 1 0))) [
-        true ↦ λ b. record {
+      | false ↦ λ a. elim (one_of twos bs) as (λ t. one_of twos bs ≡ t → IsWord bs (cond t 2 (cond (one_of ones bs) 1 0))) [
+        | true ↦ λ b. record {
           spelt = λ lt. rw (word_there 2 twos bs refl b) (first_or _ _);
           longest = λ m lt le. gone bs m le (λ e. a) (λ e. absurd (omega arith)) (λ e. absurd (omega arith));
           none = λ e. absurd (omega arith);
         }
-      | false ↦ λ b. elim (one_of ones bs) as (λ t. one_of ones bs ≡ t → IsWord bs (cond t 1 0)) [
-          true ↦ λ c. record {
+        | false ↦ λ b. elim (one_of ones bs) as (λ t. one_of ones bs ≡ t → IsWord bs (cond t 1 0)) [
+          | true ↦ λ c. record {
             spelt = λ lt. rw (word_there 1 ones bs refl c) (last_or _);
             longest = λ m lt le. gone bs m le (λ e. a) (λ e. b) (λ e. absurd (omega arith));
             none = λ e. absurd (omega arith);
           }
-        | false ↦ λ c. record {
+          | false ↦ λ c. record {
             spelt = λ lt. absurd (omega arith);
             longest = λ m lt le. gone bs m le (λ e. a) (λ e. b) (λ e. c);
             none = λ e. c;
@@ -97,9 +97,10 @@ punctuator bs =
       ] refl
     ] refl
   where
-  first_or : (x y : Bool) → ((x || true) || y) ≡ true
-  first_or true y = refl
-  first_or false y = refl
-  last_or : (x : Bool) → (x || true) ≡ true
-  last_or true = refl
-  last_or false = refl
+    first_or : (x y : Bool) → ((x || true) || y) ≡ true
+    first_or true y = refl
+    first_or false y = refl
+
+    last_or : (x : Bool) → (x || true) ≡ true
+    last_or true = refl
+    last_or false = refl

@@ -35,7 +35,7 @@ unbalanced_at text opened [] = first_of opened
 unbalanced_at text opened (t ∷ ts) =
     if opens (mark_of text t) then unbalanced_at text (opened ++ t.span.from ∷ []) ts
     else if closes (mark_of text t) then
-        (if closes_last text opened (mark_of text t)
-            then unbalanced_at text (take (length opened - 1) opened) ts
-            else Some t.span.from)
+    (if closes_last text opened (mark_of text t)
+    then unbalanced_at text (take (length opened - 1) opened) ts
+    else Some t.span.from)
     else unbalanced_at text opened ts

@@ -23,7 +23,7 @@ tokens_from text until i [] = Ok []
 tokens_from text until i (b ∷ bs) =
     if nat_lt i until then tokens_from text until (i + 1) bs
     else elim (item_at text i) [
-        items.White e ↦ tokens_from text e (i + 1) bs
+      | items.White e ↦ tokens_from text e (i + 1) bs
       | items.Piece kind e ↦ with_first (token kind i e) (tokens_from text e (i + 1) bs)
       | items.OpenString ↦ Err (ends.OpenString i)
       | items.OpenComment ↦ Err (ends.OpenComment i)

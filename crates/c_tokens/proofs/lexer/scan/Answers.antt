@@ -7,12 +7,12 @@ loop-i-init c = at_start c.args.text.now c.new-list.result c.new-list.ensures
 pub loop-i-preserved-in-White : goal.loop-i-preserved-in-White
 loop-i-preserved-in-White c =
     at_white c.args.text.now c.loop-i.list c.loop-i.i c.in-White.end c.loop-i.invariant c.loop-i-test.true
-      c.in-White.ensures.is c.in-White.ensures.within.0 c.in-White.ensures.within.1
+    c.in-White.ensures.is c.in-White.ensures.within.0 c.in-White.ensures.within.1
 
 pub loop-i-preserved : goal.loop-i-preserved
 loop-i-preserved c =
     at_piece c.args.text.now c.loop-i.list c.push.new.self c.token.result c.loop-i.i c.in-Piece.end c.in-Piece.kind c.loop-i.invariant c.loop-i-test.true
-      c.in-Piece.ensures.is c.in-Piece.ensures.within.0 c.in-Piece.ensures.within.1 c.token.ensures c.in_ok-push-in-Piece.ensures.ok
+    c.in-Piece.ensures.is c.in-Piece.ensures.within.0 c.in-Piece.ensures.within.1 c.token.ensures c.in_ok-push-in-Piece.ensures.ok
 
 pub returns-in-OpenString-clause-explained : goal.returns-in-OpenString-clause-explained
 returns-in-OpenString-clause-explained c = at_string c.args.text.now c.loop-i.list c.loop-i.i c.loop-i.invariant c.loop-i-test.true c.in-OpenString.ensures.is

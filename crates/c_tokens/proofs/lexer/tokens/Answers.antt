@@ -7,9 +7,9 @@ use Rattle.c_tokens.proofs.lexer.tokens.Goals as goal
 pub returns-in-Some-clause-explained : goal.returns-in-Some-clause-explained
 returns-in-Some-clause-explained c =
     unbalanced_law c.args.text.now c.in_ok-list.list c.in-Some.offset c.in_ok-list.ensures.explained
-      (sym c.in-Some.is ∙ c.in_ok-offset.ensures ∙ ap (λ (ts : List Token). unbalanced_at c.args.text.now [] ts) c.as_slice.ensures)
+    (sym c.in-Some.is ∙ c.in_ok-offset.ensures ∙ ap (λ (ts : List Token). unbalanced_at c.args.text.now [] ts) c.as_slice.ensures)
 
 pub returns-in-None-clause-explained : goal.returns-in-None-clause-explained
 returns-in-None-clause-explained c =
     balanced_law c.args.text.now c.in_ok-list.list c.in_ok-list.ensures.explained
-      (sym c.in-None.is ∙ c.in_ok-offset.ensures ∙ ap (λ (ts : List Token). unbalanced_at c.args.text.now [] ts) c.as_slice.ensures)
+    (sym c.in-None.is ∙ c.in_ok-offset.ensures ∙ ap (λ (ts : List Token). unbalanced_at c.args.text.now [] ts) c.as_slice.ensures)
