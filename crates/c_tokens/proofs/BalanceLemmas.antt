@@ -1,13 +1,12 @@
 -- The check of brackets by a stack finds none exactly where the tokens are balanced.
-use Rattle.std.proofs.Common.{◌≡◌, ℕ, zero, suc, ◌+◌, ◌-◌, ◌<◌, ◌≤◌, ◌⊎◌, inl, inr, Bool, true, false, List, [], ◌∷◌, ◌++◌, take, drop, length, get_or, cond, refl, arith, ◌==◌, ◌||◌, ◌&&◌, ap, sym, ◌∙◌, subst, Option, Some, None, append_assoc, length-append, nat_lt, eq-eqb, lt-ltb}
-use Rattle.std.proofs.lemmas.List.{take_more, get_or-append-add, take_all, append-nil}
-use Rattle.std.proofs.lemmas.Bool.{eqb-true, ltb-true}
+use Rattle.std.proofs.Common.{◌≡◌, ℕ, ◌+◌, ◌-◌, true, false, List, [], ◌∷◌, ◌++◌, take, length, get_or, cond, refl, arith, ◌==◌, ◌||◌, ap, sym, ◌∙◌, subst, Some, None, append_assoc, length-append, nat_lt, eq-eqb, lt-ltb}
+use Rattle.std.proofs.lemmas.List.{get_or-append-add, append-nil}
+use Rattle.std.proofs.lemmas.Bool.{eqb-true}
 use Rattle.c_tokens.specs.declared.token.Token.{Token}
-use Rattle.c_tokens.specs.declared.token.TokenKind.{TokenKind}
 use Rattle.c_tokens.specs.declared.token.TokenKind.TheVariants.{Name, Number, Char, Text, Punct}
 use Rattle.c_tokens.specs.Brackets.{mark_of, opens, closes, partner_of, closes_last, first_of, unbalanced_at}
 use Rattle.c_tokens.specs.Balance.{IsBalanced, none, other, pair}
-use Rattle.c_tokens.proofs.PunctLemmas.{and_left, and_right}
+use Rattle.c_tokens.proofs.PunctLemmas.{and_right}
 
 -- The tokens close the open brackets, the innermost first, with balanced tokens between.
 data Closes (text : List ℕ) : List ℕ → List Token → Type 0 where

@@ -1,21 +1,19 @@
 -- What stands at an offset, and so the whole text, in the words of the grammar.
-use Rattle.std.proofs.Common.{◌≡◌, ℕ, zero, suc, ◌+◌, ◌-◌, ◌<◌, ◌≤◌, ◌⊎◌, inl, inr, Bool, true, false, List, [], ◌∷◌, ◌++◌, take, drop, length, get_or, cond, refl, arith, ◌==◌, ◌||◌, ◌&&◌, ap, sym, ◌∙◌, subst, Option, Some, None, Result, Ok, Err, length-drop, nat_le, nat_lt}
+use Rattle.std.proofs.Common.{◌≡◌, ℕ, zero, suc, ◌+◌, ◌-◌, ◌<◌, ◌≤◌, inl, inr, Bool, true, false, List, [], ◌∷◌, ◌++◌, drop, length, get_or, cond, refl, arith, ◌==◌, ◌||◌, ◌&&◌, ap, sym, ◌∙◌, subst, Option, Some, None, Ok, length-drop, nat_le}
 use Rattle.std.proofs.lemmas.List.{drop_more}
 use Rattle.std.proofs.lemmas.Bool.{eqb-true, cases_lt, eqb-false, leb-false}
 use Rattle.c_tokens.specs.declared.token.Token.{Token}
 use Rattle.c_tokens.specs.declared.token.TokenKind.{TokenKind}
-use Rattle.c_tokens.specs.declared.token.TokenKind.TheVariants.{Name, Number, Char, Text, Punct}
+use Rattle.c_tokens.specs.declared.token.TokenKind.TheVariants.{Name, Number, Punct}
 use Rattle.c_tokens.specs.declared.item.Item.{Item}
 use Rattle.c_tokens.specs.declared.item.Item.TheVariants as items
-use Rattle.c_tokens.specs.declared.token_end.TokenEnd.{TokenEnd}
-use Rattle.c_tokens.specs.declared.token_end.TokenEnd.TheVariants as ends
 use Rattle.c_tokens.specs.Bytes.{is_space, begins_name, is_digit, is_quote, is_pair_at}
 use Rattle.c_tokens.specs.Ends.{name_end, number_end, literal_end, comment_end, line_end}
 use Rattle.c_tokens.specs.Puncts.{ones, one_of, punctuator_len}
-use Rattle.c_tokens.specs.Items.{item_at, piece_at, literal_or_word, literal_at, closed_literal, word_at, punctuator_item, closed_comment, begins_number, opening_at, opens_line, EndsWithin, literal_kind}
+use Rattle.c_tokens.specs.Items.{item_at, piece_at, literal_or_word, literal_at, closed_literal, word_at, punctuator_item, closed_comment, begins_number, opening_at, opens_line}
 use Rattle.c_tokens.specs.Spelling.{IsLongest}
 use Rattle.c_tokens.specs.White.{IsWhitePiece, IsWhite, space, splice, comment, line_comment, directive, none, more}
-use Rattle.c_tokens.specs.Cut.{Explains, ExplainsScan, IsUnbalanced, IsCut, IsOrdered, IsReadUpTo, IsOpenLiteral, IsOpenComment, is_bad}
+use Rattle.c_tokens.specs.Cut.{ExplainsScan, IsUnbalanced, IsCut, IsOrdered, IsReadUpTo, IsOpenLiteral, IsOpenComment, is_bad}
 use Rattle.c_tokens.specs.Tokens.{token, tokens_from}
 use Rattle.c_tokens.proofs.ScanLemmas.{after, after-none, on-white, read_piece}
 use Rattle.c_tokens.proofs.PunctLemmas.{and_left, and_right}

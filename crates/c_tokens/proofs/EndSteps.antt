@@ -1,11 +1,10 @@
 -- One step of each end, by the code's own tests.
-use Rattle.std.proofs.Common.{◌≡◌, ℕ, ◌+◌, ◌<◌, ◌≤◌, Bool, true, false, List, drop, length, get_or, Option, Some, None, cond, refl, arith, ◌==◌, ◌||◌, ◌&&◌, ap, sym, add-zero, get_or-drop}
+use Rattle.std.proofs.Common.{◌≡◌, ℕ, ◌+◌, ◌<◌, ◌≤◌, Bool, true, false, List, drop, length, get_or, Some, None, cond, refl, arith, ◌==◌, ◌||◌, ◌&&◌, add-zero, get_or-drop}
 use Rattle.std.proofs.lemmas.List.{drop_more, drop_all}
 use Rattle.std.specs.List.{take_while}
 use Rattle.std.proofs.lemmas.List.Folds.{length-prefix_len}
 use Rattle.std.proofs.lemmas.List.Sums.{prefix_len-le-length}
 use Rattle.std.proofs.lemmas.Bool.Decides.{nat_tests}
-use Rattle.std.proofs.lemmas.Grind.{common_steps}
 use Rattle.c_tokens.specs.Bytes.{continues_number, is_exponent, is_sign}
 use Rattle.c_tokens.specs.Ends.{number_end, literal_end, comment_end, line_end}
 

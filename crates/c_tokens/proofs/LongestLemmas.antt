@@ -1,6 +1,6 @@
 -- The ends of names, numbers and literals are the farthest, by recursion on the bytes.
-use Rattle.std.proofs.Common.{◌≡◌, ℕ, zero, suc, ◌+◌, ◌-◌, ◌<◌, ◌≤◌, Bool, true, false, List, [], ◌∷◌, ◌++◌, take, drop, length, get_or, cond, refl, arith, ◌==◌, ◌||◌, ◌&&◌, ap, sym, ◌∙◌, subst, Option, Some, None}
-use Rattle.std.specs.List.{prefix_len, list_all, list_any}
+use Rattle.std.proofs.Common.{◌≡◌, ℕ, zero, suc, ◌+◌, ◌-◌, ◌<◌, ◌≤◌, Bool, true, false, List, [], ◌∷◌, take, length, cond, refl, arith, ◌==◌, ◌||◌, ◌&&◌, ◌∙◌, Option, Some, None}
+use Rattle.std.specs.List.{prefix_len, list_all}
 use Rattle.c_tokens.specs.Bytes.{continues_number, is_exponent, is_sign}
 use Rattle.c_tokens.specs.Ends.{number_end, literal_end}
 use Rattle.c_tokens.specs.Spelling.{is_rest_of_number, is_rest_of_literal, is_empty}

@@ -1,17 +1,16 @@
 -- A name, a number, a literal and a punctuator are each the longest of its kind.
-use Rattle.std.proofs.Common.{◌≡◌, ℕ, zero, suc, ◌+◌, ◌-◌, ◌<◌, ◌≤◌, ◌⊎◌, inl, inr, Bool, true, false, List, [], ◌∷◌, ◌++◌, take, drop, length, get_or, cond, refl, arith, ◌==◌, ◌||◌, ◌&&◌, ap, sym, ◌∙◌, subst, Option, Some, None, length-drop, get_or-drop, add-zero}
-use Rattle.std.specs.List.{prefix_len, list_all, list_any, take_while}
-use Rattle.std.proofs.lemmas.List.{drop_more, drop_all, drop-drop}
+use Rattle.std.proofs.Common.{◌≡◌, ℕ, zero, suc, ◌+◌, ◌-◌, ◌<◌, ◌≤◌, ◌⊎◌, inl, inr, Bool, true, false, List, [], ◌∷◌, take, drop, length, get_or, cond, refl, arith, ◌==◌, ◌||◌, ◌&&◌, ap, sym, ◌∙◌, subst, Option, Some, None, length-drop, get_or-drop, add-zero}
+use Rattle.std.specs.List.{prefix_len, take_while}
+use Rattle.std.proofs.lemmas.List.{drop_more, drop-drop}
 use Rattle.std.proofs.lemmas.List.Folds.{length-prefix_len}
 use Rattle.std.proofs.lemmas.Bool.{eqb-true, cases_lt}
-use Rattle.c_tokens.specs.declared.token.TokenKind.{TokenKind}
-use Rattle.c_tokens.specs.declared.token.TokenKind.TheVariants.{Name, Number, Char, Text, Punct}
+use Rattle.c_tokens.specs.declared.token.TokenKind.TheVariants.{Name, Number}
 use Rattle.c_tokens.specs.Bytes.{begins_name, continues_name, is_digit, is_letter, is_quote, is_pair_at, continues_number, is_exponent, is_sign}
-use Rattle.c_tokens.specs.Ends.{name_end, number_end, literal_end}
+use Rattle.c_tokens.specs.Ends.{name_end, number_end}
 use Rattle.c_tokens.specs.Items.{begins_number, opening_at, literal_kind}
-use Rattle.c_tokens.specs.Spelling.{spells, IsLongest, is_rest_of_number, is_rest_of_literal, begins_with_digit}
+use Rattle.c_tokens.specs.Spelling.{spells, IsLongest, is_rest_of_literal, begins_with_digit}
 use Rattle.c_tokens.specs.Cut.{IsOpenLiteral}
-use Rattle.c_tokens.proofs.LongestLemmas.{all_of_prefix, not_all_of_more, number_end-le, number_to_end, number_no_more, IsClosed, Closing, closing}
+use Rattle.c_tokens.proofs.LongestLemmas.{all_of_prefix, not_all_of_more, number_end-le, number_to_end, number_no_more, IsClosed}
 use Rattle.c_tokens.proofs.PunctLemmas.{and_left, and_right}
 use Rattle.c_tokens.proofs.WhiteLemmas.{past}
 

@@ -1,9 +1,7 @@
 -- Punctuators in three bytes, padded with 0.
-use Rattle.std.proofs.Common.{◌≡◌, ℕ, ◌+◌, ◌<◌, ◌≤◌, Bool, true, false, List, [], ◌∷◌, drop, length, get_or, cond, refl, arith, ◌==◌, ◌||◌, ◌&&◌, ap, sym, ◌∙◌, add-zero, get_or-drop, length-drop}
+use Rattle.std.proofs.Common.{◌≡◌, ℕ, ◌+◌, ◌<◌, ◌≤◌, Bool, true, false, List, [], ◌∷◌, drop, length, get_or, cond, refl, arith, ◌==◌, ◌||◌, ◌&&◌, ◌∙◌, add-zero, get_or-drop, length-drop}
 use Rattle.std.proofs.lemmas.Bool.{eqb-true}
-use Rattle.std.proofs.lemmas.Bool.Decides.{nat_tests}
 use Rattle.std.specs.List.{list_all}
-use Rattle.std.proofs.lemmas.Grind.{common_steps}
 use Rattle.c_tokens.specs.Puncts.{threes, twos, ones, one_of, begins, punctuator_len}
 
 pub and_left : (a b : Bool) → (a && b) ≡ true → a ≡ true

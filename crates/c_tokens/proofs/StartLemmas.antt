@@ -1,6 +1,6 @@
 -- The beginnings of lines, cut at an offset.
 use Rattle.std.proofs.Common.{◌≡◌, ℕ, zero, suc, ◌+◌, ◌-◌, ◌<◌, ◌≤◌, Bool, true, false, List, [], ◌∷◌, ◌++◌, take, drop, length, get_or, cond, refl, arith, ◌==◌, not, reverse, ap, sym, ◌∙◌, subst, append_assoc, add-one, length-append, count_by, sum_by, inl, inr, nat_le}
-use Rattle.std.specs.List.{suffix_len, prefix_len}
+use Rattle.std.specs.List.{prefix_len}
 use Rattle.std.specs.List.Sorted.{IsPartitionedBy, IsPartitionPoint}
 use Rattle.std.proofs.lemmas.List.{drop_more, drop_all, take_more, reverse-append, append-nil, get_or_append_left, get_or-append-add, length-take-le}
 use Rattle.std.proofs.lemmas.Bool.{cases_lt, le-leb, lt-leb}

@@ -1,6 +1,5 @@
 -- A punctuator is the longest of the table's.
-use Rattle.std.proofs.Common.{◌≡◌, ℕ, zero, suc, ◌+◌, ◌-◌, ◌<◌, ◌≤◌, ◌⊎◌, inl, inr, Bool, true, false, List, [], ◌∷◌, ◌++◌, take, drop, length, get_or, cond, refl, arith, ◌==◌, ◌||◌, ◌&&◌, ap, sym, ◌∙◌, subst, length-drop, eq-eqb}
-use Rattle.std.specs.List.{list_any, list_all}
+use Rattle.std.proofs.Common.{◌≡◌, ℕ, zero, suc, ◌<◌, ◌≤◌, Bool, true, false, List, [], ◌∷◌, take, length, cond, refl, arith, ◌==◌, ◌||◌, ◌&&◌, sym, ◌∙◌, subst, eq-eqb}
 use Rattle.std.proofs.lemmas.List.{length-take-le}
 use Rattle.std.proofs.lemmas.Bool.{eqb-true}
 use Rattle.c_tokens.specs.Puncts.{threes, twos, ones, begins, one_of, punctuator_len}

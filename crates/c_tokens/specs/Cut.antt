@@ -1,8 +1,6 @@
 -- A text cut into tokens and white space.
-use Rattle.std.specs.Prelude.{◌≡◌, ℕ, Bool, true, false, List, [], ◌∷◌, ◌+◌, ◌<◌, ◌≤◌, ◌||◌, ◌==◌, nat_le, ◌&&◌, length, slice_index, slice_range, Option, Some, Result, Ok, Err}
+use Rattle.std.specs.Prelude.{◌≡◌, ℕ, Bool, true, false, List, [], ◌∷◌, ◌+◌, ◌<◌, ◌≤◌, ◌||◌, ◌==◌, nat_le, ◌&&◌, length, slice_index, slice_range, Some, Result, Ok, Err}
 use Rattle.c_tokens.specs.declared.token.Token.{Token}
-use Rattle.c_tokens.specs.declared.token.TokenKind.{TokenKind}
-use Rattle.c_tokens.specs.declared.token.TokenKind.TheVariants.{Char, Text}
 use Rattle.c_tokens.specs.declared.token.Tokens.{Tokens}
 use Rattle.c_tokens.specs.declared.token_end.TokenEnd.{TokenEnd}
 use Rattle.c_tokens.specs.declared.token_end.TokenEnd.TheVariants as ends

@@ -1,5 +1,5 @@
 -- Which bytes spell a token of which kind, whatever stands around them (C11 6.4.2, 6.4.4.4, 6.4.5, 6.4.6, 6.4.8).
-use Rattle.std.specs.Prelude.{◌≡◌, ℕ, Bool, true, false, List, [], ◌∷◌, ◌++◌, ◌+◌, ◌<◌, ◌≤◌, ◌==◌, ◌||◌, ◌&&◌, codes, if◌then◌else◌, length, drop, slice_range}
+use Rattle.std.specs.Prelude.{◌≡◌, ℕ, Bool, true, false, List, [], ◌∷◌, ◌<◌, ◌≤◌, ◌==◌, ◌||◌, ◌&&◌, codes, if◌then◌else◌, length, drop, slice_range}
 use Rattle.std.specs.List.{list_any, list_all}
 use Rattle.c_tokens.specs.declared.token.TokenKind.{TokenKind}
 use Rattle.c_tokens.specs.declared.token.TokenKind.TheVariants.{Name, Number, Char, Text, Punct}

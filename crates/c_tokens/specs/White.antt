@@ -1,5 +1,5 @@
 -- White space (C11 6.4, 5.1.1.2; a line that begins with `#` is a directive that is left, as GCC's line markers are).
-use Rattle.std.specs.Prelude.{◌≡◌, ◌≢◌, ℕ, Bool, true, false, List, ◌+◌, ◌-◌, ◌<◌, ◌≤◌, ◌⊎◌, length, slice_index}
+use Rattle.std.specs.Prelude.{◌≡◌, ◌≢◌, ℕ, true, false, List, ◌+◌, ◌-◌, ◌<◌, ◌≤◌, ◌⊎◌, length, slice_index}
 use Rattle.c_tokens.specs.Bytes.{is_space, is_pair_at}
 use Rattle.c_tokens.specs.Items.{opens_line}
 

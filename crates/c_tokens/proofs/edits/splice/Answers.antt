@@ -1,4 +1,4 @@
-use Rattle.std.proofs.Common.{◌≤◌, ◌∙◌, length, arith}
+use Rattle.std.proofs.Common.{◌∙◌, arith}
 use Rattle.c_tokens.proofs.SpliceLemmas.{splice-end, splice-more, apart-le, apart-more}
 use Rattle.c_tokens.proofs.edits.splice.Goals as goal
 

@@ -1,6 +1,6 @@
-use Rattle.std.proofs.Common.{◌≡◌, ◌≤◌, ◌+◌, ◌-◌, ◌∙◌, ap, refl, length, get_or, arith}
-use Rattle.c_tokens.specs.Lines.{newlines_before, bytes_since_newline, line_col_of}
-use Rattle.c_tokens.proofs.StartLemmas.{Place, place, place_fits}
+use Rattle.std.proofs.Common.{◌≡◌, ◌≤◌, ◌+◌, ◌-◌, ◌∙◌, refl, length, arith}
+use Rattle.c_tokens.specs.Lines.{bytes_since_newline}
+use Rattle.c_tokens.proofs.StartLemmas.{place, place_fits}
 use Rattle.c_tokens.proofs.line_starts.LineStarts.line_col.Goals as goal
 
 pub overflow_sub-line : goal.overflow_sub-line
