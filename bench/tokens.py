@@ -3,7 +3,8 @@
 
     bench/tokens.py [FILE.i ..]      with no file: one that this script writes
 
-It builds bench/tokens/main.rt over a copy of the repository's crates, outside the gate, with `rt` on the PATH.
+It builds a program that runs `tokens` over a copy of the repository's crates, outside the gate, with `rt` on the PATH.
+BENCH_TOKENS names one that is built already.
 """
 import os
 import shutil
@@ -14,6 +15,34 @@ import time
 
 ROOT = os.path.dirname(os.path.dirname(os.path.abspath(__file__)))
 SIZE = 16 * 1024 * 1024
+
+# The program, in Rattle.
+PROGRAM = r'''//! Prints how long `tokens` takes on each file of the command line.
+#![tactic(auto)]
+
+use anyhow::{Result, ensure};
+use c_tokens::tokens;
+use std::time::Instant;
+use std::{env, fs};
+
+fn main(rt: HostRuntime) -> Result<()> {
+    for name in env::args(&rt)?.skip(1) {
+        let text = fs::read(&rt, name.as_str())?;
+        ensure!(text.len() < 4294967295, "{name} is too large");
+        let start = Instant::now(&rt)?;
+        let found = tokens(rt.alloc(), &text);
+        let took = start.elapsed(&rt)?.as_millis();
+        match found {
+            Ok(all) => {
+                let count = all.list.len();
+                println!(rt; "{count} tokens in {took} ms")?;
+            }
+            Err(end) => println!(rt; "{end} in {took} ms")?,
+        }
+    }
+    Ok(())
+}
+'''
 
 # One piece of the file, in the style of preprocessed kernel code; @ stands for a number.
 PIECE = r"""# @ "include/linux/part.h" 1 3 4
@@ -57,7 +86,8 @@ def built(folder):
         shutil.copytree(os.path.join(ROOT, "crates", name), os.path.join(folder, "crates", name))
     own = os.path.join(folder, "crates", "bench_tokens")
     os.makedirs(os.path.join(own, "src"))
-    shutil.copy(os.path.join(ROOT, "bench", "tokens", "main.rt"), os.path.join(own, "src", "main.rt"))
+    with open(os.path.join(own, "src", "main.rt"), "w") as out:
+        out.write(PROGRAM)
     shutil.copy(os.path.join(ROOT, "HANDLES"), folder)
     with open(os.path.join(folder, "crates.txt"), "w") as out:
         out.write("asm_core: sqlite_items thiserror\nc_tokens: asm_core thiserror\nbench_tokens: c_tokens anyhow\n")
