@@ -1,7 +1,6 @@
 -- One token in the check of brackets, by the code's own tests.
-use Rattle.std.proofs.Common.{◌≡◌, ℕ, ◌+◌, ◌-◌, ◌<◌, ◌≤◌, Bool, true, false, List, [], ◌∷◌, ◌++◌, take, drop, length, get_or, slice_index_or, cond, refl, arith, ◌==◌, ap, sym, ◌∙◌, subst, Option, Some, None}
+use Rattle.std.proofs.Common.{◌≡◌, ℕ, ◌+◌, ◌-◌, ◌<◌, ◌≤◌, true, false, List, [], ◌∷◌, ◌++◌, take, drop, length, get_or, cond, refl, ◌∙◌, Some}
 use Rattle.std.proofs.lemmas.List.{drop_more, drop_all}
-use Rattle.std.proofs.lemmas.Bool.Decides.{nat_tests}
 use Rattle.c_tokens.specs.declared.token.Token.{Token}
 use Rattle.c_tokens.specs.Brackets.{mark_of, opens, closes, closes_last, first_of, unbalanced_at}
 
@@ -11,8 +10,8 @@ bracket-none text opened ts k le = rw (drop_all k ts le) refl
 
 bracket-step : (text opened : List ℕ) (ts : List Token) (k : ℕ) (d : Token) → k < length ts
     → unbalanced_at text opened (drop k ts) ≡ cond (opens (mark_of text (get_or ts k d))) (unbalanced_at text (opened ++ (get_or ts k d).span.from ∷ []) (drop (k + 1) ts))
-        (cond (closes (mark_of text (get_or ts k d))) (cond (closes_last text opened (mark_of text (get_or ts k d))) (unbalanced_at text (take (length opened - 1) opened) (drop (k + 1) ts)) (Some (get_or ts k d).span.from))
-        (unbalanced_at text opened (drop (k + 1) ts)))
+    (cond (closes (mark_of text (get_or ts k d))) (cond (closes_last text opened (mark_of text (get_or ts k d))) (unbalanced_at text (take (length opened - 1) opened) (drop (k + 1) ts)) (Some (get_or ts k d).span.from))
+    (unbalanced_at text opened (drop (k + 1) ts)))
 unfolding unbalanced_at
 bracket-step text opened ts k d lt = rw (drop_more ts k d lt) refl
 

@@ -1,11 +1,10 @@
 -- One step of each end, by the code's own tests.
-use Rattle.std.proofs.Common.{◌≡◌, ℕ, ◌+◌, ◌<◌, ◌≤◌, Bool, true, false, List, drop, length, get_or, Option, Some, None, cond, refl, arith, ◌==◌, ◌||◌, ◌&&◌, ap, sym, add-zero, get_or-drop}
+use Rattle.std.proofs.Common.{◌≡◌, ℕ, ◌+◌, ◌<◌, ◌≤◌, Bool, true, false, List, drop, length, get_or, Some, None, cond, refl, arith, ◌==◌, ◌||◌, ◌&&◌, add-zero, get_or-drop}
 use Rattle.std.proofs.lemmas.List.{drop_more, drop_all}
 use Rattle.std.specs.List.{take_while}
 use Rattle.std.proofs.lemmas.List.Folds.{length-prefix_len}
 use Rattle.std.proofs.lemmas.List.Sums.{prefix_len-le-length}
 use Rattle.std.proofs.lemmas.Bool.Decides.{nat_tests}
-use Rattle.std.proofs.lemmas.Grind.{common_steps}
 use Rattle.c_tokens.specs.Bytes.{continues_number, is_exponent, is_sign}
 use Rattle.c_tokens.specs.Ends.{number_end, literal_end, comment_end, line_end}
 
@@ -22,8 +21,8 @@ pub ruleset number_steps = (number_end-step, number_end-done)
 
 pub literal_end-step : (q : ℕ) (taken : Bool) (text : List ℕ) (i : ℕ) → i < length text
     → literal_end q taken i (drop i text) ≡ cond taken (literal_end q false (i + 1) (drop (i + 1) text))
-        (cond (get_or text i 0 == q) (Some (i + 1)) (cond (get_or text i 0 == 92) (literal_end q true (i + 1) (drop (i + 1) text))
-        (cond (get_or text i 0 == 10) None (literal_end q false (i + 1) (drop (i + 1) text)))))
+    (cond (get_or text i 0 == q) (Some (i + 1)) (cond (get_or text i 0 == 92) (literal_end q true (i + 1) (drop (i + 1) text))
+    (cond (get_or text i 0 == 10) None (literal_end q false (i + 1) (drop (i + 1) text)))))
 unfolding literal_end
 literal_end-step q taken text i lt = rw (drop_more text i 0 lt) refl
 
@@ -69,7 +68,7 @@ pub ruleset comment_steps = (comment_end-step, comment_end-done)
 
 pub line_end-step : (s : Bool) (text : List ℕ) (i : ℕ) → i < length text
     → line_end s i (drop i text) ≡ cond s (line_end (get_or text i 0 == 92) (i + 1) (drop (i + 1) text))
-        (cond (get_or text i 0 == 10) i (line_end (get_or text i 0 == 92) (i + 1) (drop (i + 1) text)))
+    (cond (get_or text i 0 == 10) i (line_end (get_or text i 0 == 92) (i + 1) (drop (i + 1) text)))
 unfolding line_end
 line_end-step s text i lt = rw (drop_more text i 0 lt) refl
 

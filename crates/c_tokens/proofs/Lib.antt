@@ -6,3 +6,9 @@ pub mod ScanLemmas
 pub mod PlaceLemmas
 pub mod SpliceLemmas
 pub mod StartLemmas
+pub mod LongestLemmas
+pub mod WhiteLemmas
+pub mod PieceLemmas
+pub mod WordLemmas
+pub mod BalanceLemmas
+pub mod CutLemmas

@@ -1,8 +1,7 @@
 -- Whether a line opens at an offset, one byte further.
-use Rattle.std.proofs.Common.{◌≡◌, ℕ, ◌+◌, ◌-◌, ◌<◌, ◌≤◌, Bool, true, false, List, [], ◌∷◌, ◌++◌, take, length, get_or, cond, refl, arith, ◌==◌, ap, sym, ◌∙◌, not, reverse, subst, Option, Some, None}
+use Rattle.std.proofs.Common.{◌≡◌, ℕ, ◌+◌, ◌-◌, ◌<◌, ◌≤◌, true, false, List, [], ◌∷◌, take, length, get_or, cond, refl, arith, ◌==◌, sym, ◌∙◌, not, reverse, subst, Some}
 use Rattle.std.specs.List.{find}
 use Rattle.std.proofs.lemmas.List.{take_more, reverse-append}
-use Rattle.std.proofs.lemmas.Bool.Decides.{nat_tests}
 use Rattle.c_tokens.specs.Bytes.{is_blank}
 use Rattle.c_tokens.specs.Items.{opens_line, is_newline_or_none}
 

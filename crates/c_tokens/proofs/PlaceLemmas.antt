@@ -1,6 +1,6 @@
 -- Lines and columns are no more than the bytes before an offset.
-use Rattle.std.proofs.Common.{◌≡◌, ℕ, ◌+◌, ◌<◌, ◌≤◌, Bool, true, false, List, [], ◌∷◌, length, cond, refl, arith, ◌==◌, reverse, not}
-use Rattle.std.specs.List.{suffix_len, prefix_len}
+use Rattle.std.proofs.Common.{ℕ, ◌≤◌, Bool, List, length, arith, reverse}
+use Rattle.std.specs.List.{suffix_len}
 use Rattle.std.proofs.lemmas.List.{length-reverse}
 use Rattle.std.proofs.lemmas.List.Sums.{prefix_len-le-length}
 

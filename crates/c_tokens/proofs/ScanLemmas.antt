@@ -47,7 +47,7 @@ unfolding tokens_from
 scan-step text i lt =
     let here : nat_lt i i ≡ false = le-ltb i i (omega arith) in
     rw (drop_more text i 0 lt, here) (elim (item_at text i) as (λ v. elim v [
-        items.White e ↦ tokens_from text e (i + 1) (drop (i + 1) text)
+      | items.White e ↦ tokens_from text e (i + 1) (drop (i + 1) text)
       | items.Piece kind e ↦ with_first (token kind i e) (tokens_from text e (i + 1) (drop (i + 1) text))
       | items.OpenString ↦ Err (ends.OpenString i)
       | items.OpenComment ↦ Err (ends.OpenComment i)

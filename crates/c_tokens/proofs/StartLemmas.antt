@@ -1,6 +1,6 @@
 -- The beginnings of lines, cut at an offset.
 use Rattle.std.proofs.Common.{◌≡◌, ℕ, zero, suc, ◌+◌, ◌-◌, ◌<◌, ◌≤◌, Bool, true, false, List, [], ◌∷◌, ◌++◌, take, drop, length, get_or, cond, refl, arith, ◌==◌, not, reverse, ap, sym, ◌∙◌, subst, append_assoc, add-one, length-append, count_by, sum_by, inl, inr, nat_le}
-use Rattle.std.specs.List.{suffix_len, prefix_len}
+use Rattle.std.specs.List.{prefix_len}
 use Rattle.std.specs.List.Sorted.{IsPartitionedBy, IsPartitionPoint}
 use Rattle.std.proofs.lemmas.List.{drop_more, drop_all, take_more, reverse-append, append-nil, get_or_append_left, get_or-append-add, length-take-le}
 use Rattle.std.proofs.lemmas.Bool.{cases_lt, le-leb, lt-leb}
@@ -39,52 +39,56 @@ pub record Split (text starts : List ℕ) (k : ℕ) : Type 0 where
 count-more : (text : List ℕ) (k : ℕ) → k < length text → newlines_before text (k + 1) ≡ newlines_before text k + cond (get_or text k 0 == 10) 1 0
 count-more text k lt = rw (take_more text k 0 lt) (sum_by-append (λ b. cond (b == 10) 1 0) (take k text) (get_or text k 0 ∷ []) ∙ one)
   where
-  one : sum_by (λ b. cond (b == 10) 1 0) (take k text) + sum_by (λ b. cond (b == 10) 1 0) (get_or text k 0 ∷ []) ≡ newlines_before text k + cond (get_or text k 0 == 10) 1 0
-  one = omega arith
+    one : sum_by (λ b. cond (b == 10) 1 0) (take k text) + sum_by (λ b. cond (b == 10) 1 0) (get_or text k 0 ∷ []) ≡ newlines_before text k + cond (get_or text k 0 == 10) 1 0
+    one = omega arith
 
 since-more : (text : List ℕ) (k : ℕ) → k < length text → bytes_since_newline text (k + 1) ≡ cond (get_or text k 0 == 10) 0 (bytes_since_newline text k + 1)
 since-more text k lt = rw (take_more text k 0 lt, reverse-append (take k text) (get_or text k 0 ∷ [])) (one (get_or text k 0) (reverse (take k text)))
   where
-  one : (b : ℕ) (bs : List ℕ) → cond (not (b == 10)) (1 + prefix_len (λ x. not (x == 10)) bs) 0 ≡ cond (b == 10) 0 (prefix_len (λ x. not (x == 10)) bs + 1)
-  one b bs = elim (b == 10) as (λ t. cond (not t) (1 + prefix_len (λ x. not (x == 10)) bs) 0 ≡ cond t 0 (prefix_len (λ x. not (x == 10)) bs + 1)) [ true ↦ refl | false ↦ omega arith ]
+    one : (b : ℕ) (bs : List ℕ) → cond (not (b == 10)) (1 + prefix_len (λ x. not (x == 10)) bs) 0 ≡ cond (b == 10) 0 (prefix_len (λ x. not (x == 10)) bs + 1)
+    one b bs = elim (b == 10) as (λ t. cond (not t) (1 + prefix_len (λ x. not (x == 10)) bs) 0 ≡ cond t 0 (prefix_len (λ x. not (x == 10)) bs + 1)) [ true ↦ refl | false ↦ omega arith ]
 
 up_to_more : (starts : List ℕ) (k j d : ℕ) → j < length starts + 1 → ((x y : ℕ) → x < length starts → get_or starts x y ≤ k) → get_or (starts ++ k ∷ []) j d ≤ k
 up_to_more starts k j d h before =
     elim (cases_lt j (length starts)) [
-      inl under ↦ rw (get_or_append_left starts (k ∷ []) d j under) (before j d under)
-    | inr over ↦
-        let here : j ≡ length starts + 0 = omega arith in
-        rw here (rw (get_or-append-add starts (k ∷ []) 0 d) (omega arith))
+      | inl under ↦ rw (get_or_append_left starts (k ∷ []) d j under) (before j d under)
+      | inr over ↦
+          let here : j ≡ length starts + 0 = omega arith in
+          rw here (rw (get_or-append-add starts (k ∷ []) 0 d) (omega arith))
     ]
 
 -- one byte further
 split_more : (text starts : List ℕ) (k : ℕ) → k < length text → Split text starts k → (later : List ℕ) × Split text later (k + 1)
 split_more text starts k lt s =
     elim (get_or text k 0 == 10) as (λ t. (get_or text k 0 == 10) ≡ t → (later : List ℕ) × Split text later (k + 1)) [
-      true ↦ λ e.
-        let longer : length (starts ++ (k + 1) ∷ []) ≡ length starts + 1 = simp length-append (omega arith) in
-        let counted : newlines_before text (k + 1) ≡ newlines_before text k + 1 = count-more text k lt ∙ rw e refl in
-        let none : bytes_since_newline text (k + 1) ≡ 0 = since-more text k lt ∙ rw e refl in
-        (starts ++ (k + 1) ∷ [], record {
-          whole = s.whole ∙ ap (λ (xs : List ℕ). starts ++ xs) (start-step text k lt ∙ rw e refl) ∙ sym (append_assoc starts ((k + 1) ∷ []) (starts_after (k + 1) (drop (k + 1) text)));
-          some = omega arith;
-          count = omega (arith, s.count);
-          last = λ d.
-            let end : get_or (starts ++ (k + 1) ∷ []) (length starts + 0) d ≡ k + 1 = get_or-append-add starts ((k + 1) ∷ []) 0 d in
-            let there : length starts + 1 - 1 ≡ length starts + 0 = omega arith in
-            rw (longer, none, there) (omega (arith, end));
-          up_to = λ j d h. up_to_more starts (k + 1) j d (omega arith) (λ x y z. let before = s.up_to x y z in omega arith);
-        })
-    | false ↦ λ e.
-        let counted : newlines_before text (k + 1) ≡ newlines_before text k = count-more text k lt ∙ rw e (omega arith) in
-        let one_more : bytes_since_newline text (k + 1) ≡ bytes_since_newline text k + 1 = since-more text k lt ∙ rw e refl in
-        (starts, record {
-          whole = s.whole ∙ ap (λ (xs : List ℕ). starts ++ xs) (start-step text k lt ∙ rw e refl);
-          some = s.some;
-          count = omega (arith, s.count);
-          last = λ d. omega (arith, s.last d);
-          up_to = λ j d h. let before = s.up_to j d h in omega arith;
-        })
+      | true ↦ λ e.
+          let longer : length (starts ++ (k + 1) ∷ []) ≡ length starts + 1 = simp length-append (omega arith) in
+          let counted : newlines_before text (k + 1) ≡ newlines_before text k + 1 = count-more text k lt ∙ rw e refl in
+          let none : bytes_since_newline text (k + 1) ≡ 0 = since-more text k lt ∙ rw e refl in (
+            starts ++ (k + 1) ∷ [],
+            record {
+              whole = s.whole ∙ ap (λ (xs : List ℕ). starts ++ xs) (start-step text k lt ∙ rw e refl) ∙ sym (append_assoc starts ((k + 1) ∷ []) (starts_after (k + 1) (drop (k + 1) text)));
+              some = omega arith;
+              count = omega (arith, s.count);
+              last = λ d.
+                  let end : get_or (starts ++ (k + 1) ∷ []) (length starts + 0) d ≡ k + 1 = get_or-append-add starts ((k + 1) ∷ []) 0 d in
+                  let there : length starts + 1 - 1 ≡ length starts + 0 = omega arith in
+                  rw (longer, none, there) (omega (arith, end));
+              up_to = λ j d h. up_to_more starts (k + 1) j d (omega arith) (λ x y z. let before = s.up_to x y z in omega arith);
+            },
+          )
+      | false ↦ λ e.
+          let counted : newlines_before text (k + 1) ≡ newlines_before text k = count-more text k lt ∙ rw e (omega arith) in
+          let one_more : bytes_since_newline text (k + 1) ≡ bytes_since_newline text k + 1 = since-more text k lt ∙ rw e refl in (
+            starts,
+            record {
+              whole = s.whole ∙ ap (λ (xs : List ℕ). starts ++ xs) (start-step text k lt ∙ rw e refl);
+              some = s.some;
+              count = omega (arith, s.count);
+              last = λ d. omega (arith, s.last d);
+              up_to = λ j d h. let before = s.up_to j d h in omega arith;
+            },
+          )
     ] refl
 
 pub split_at : (text : List ℕ) (k : ℕ) → k ≤ length text → (starts : List ℕ) × Split text starts k
@@ -100,13 +104,13 @@ unfolding starts_after
 after_above i [] j d h = absurd (omega arith)
 after_above i (b ∷ bs) j d h =
     elim (b == 10) as (λ t. j < length (cond t ((i + 1) ∷ starts_after (i + 1) bs) (starts_after (i + 1) bs)) → i < get_or (cond t ((i + 1) ∷ starts_after (i + 1) bs) (starts_after (i + 1) bs)) j d) [
-      true ↦ λ h. first_above i (starts_after (i + 1) bs) j d h (λ k l. after_above (i + 1) bs k d l)
-    | false ↦ λ h. let later = after_above (i + 1) bs j d h in omega arith
+      | true ↦ λ h. first_above i (starts_after (i + 1) bs) j d h (λ k l. after_above (i + 1) bs k d l)
+      | false ↦ λ h. let later = after_above (i + 1) bs j d h in omega arith
     ] h
   where
-  first_above : (i : ℕ) (xs : List ℕ) (j d : ℕ) → j < length ((i + 1) ∷ xs) → ((k : ℕ) → k < length xs → i + 1 < get_or xs k d) → i < get_or ((i + 1) ∷ xs) j d
-  first_above i xs zero d h later = omega arith
-  first_above i xs (suc k) d h later = let more = later k (omega arith) in omega arith
+    first_above : (i : ℕ) (xs : List ℕ) (j d : ℕ) → j < length ((i + 1) ∷ xs) → ((k : ℕ) → k < length xs → i + 1 < get_or xs k d) → i < get_or ((i + 1) ∷ xs) j d
+    first_above i xs zero d h later = omega arith
+    first_above i xs (suc k) d h later = let more = later k (omega arith) in omega arith
 
 abbrev begun : ℕ → ℕ → Bool
 begun offset s = nat_le s offset
@@ -124,19 +128,19 @@ place_in : (text before behind : List ℕ) (offset line : ℕ) → Split text be
 place_in text before behind offset line s above le point =
     let whole : length (before ++ behind) ≡ length before + length behind = length-append before behind in
     let parted : IsPartitionedBy (begun offset) (before ++ behind) = λ i j d low within holds.
-      elim (cases_lt j (length before)) [
-        inl under ↦ yes i d (omega arith)
+    elim (cases_lt j (length before)) [
+      | inl under ↦ yes i d (omega arith)
       | inr over ↦ absurd (differ _ holds (not_yet j d over within))
-      ] in
+    ] in
     let found = point parted in
     let exact : line ≡ length before =
-      elim (cases_lt line (length before)) [
-        inl under ↦ absurd (differ _ (yes line 0 under) (found.1 line 0 (omega arith) (omega arith)))
+    elim (cases_lt line (length before)) [
+      | inl under ↦ absurd (differ _ (yes line 0 under) (found.1 line 0 (omega arith) (omega arith)))
       | inr over ↦ elim (cases_lt (length before) line) [
-          inl less ↦ absurd (differ _ (found.0 (length before) 0 (omega arith) less) (not_yet (length before) 0 (omega arith) (omega arith)))
+        | inl less ↦ absurd (differ _ (found.0 (length before) 0 (omega arith) less) (not_yet (length before) 0 (omega arith) (omega arith)))
         | inr more ↦ omega arith
-        ]
-      ] in
+      ]
+    ] in
     let some = s.some in
     let there : line - 1 < length before = omega arith in
     record {
@@ -145,16 +149,18 @@ place_in text before behind offset line s above le point =
       is_start = λ d. rw (get_or_append_left before behind d (line - 1) there, exact) (s.last d);
     }
   where
-  yes : (j d : ℕ) → j < length before → begun offset (get_or (before ++ behind) j d) ≡ true
-  yes j d h = rw (get_or_append_left before behind d j h) (le-leb _ _ (s.up_to j d h))
-  not_yet : (j d : ℕ) → length before ≤ j → j < length (before ++ behind) → begun offset (get_or (before ++ behind) j d) ≡ false
-  not_yet j d over h =
-    let whole : length (before ++ behind) ≡ length before + length behind = length-append before behind in
-    let there : j ≡ length before + (j - length before) = omega arith in
-    let P : ℕ → Type 0 = λ k. begun offset (get_or (before ++ behind) k d) ≡ false in
-    subst P (sym there) (rw (get_or-append-add before behind (j - length before) d) (lt-leb _ _ (above (j - length before) d (omega arith))))
-  differ : (b : Bool) → b ≡ true → b ≡ false → ⊥
-  differ b t f = cc
+    yes : (j d : ℕ) → j < length before → begun offset (get_or (before ++ behind) j d) ≡ true
+    yes j d h = rw (get_or_append_left before behind d j h) (le-leb _ _ (s.up_to j d h))
+
+    not_yet : (j d : ℕ) → length before ≤ j → j < length (before ++ behind) → begun offset (get_or (before ++ behind) j d) ≡ false
+    not_yet j d over h =
+        let whole : length (before ++ behind) ≡ length before + length behind = length-append before behind in
+        let there : j ≡ length before + (j - length before) = omega arith in
+        let P : ℕ → Type 0 = λ k. begun offset (get_or (before ++ behind) k d) ≡ false in
+        subst P (sym there) (rw (get_or-append-add before behind (j - length before) d) (lt-leb _ _ (above (j - length before) d (omega arith))))
+
+    differ : (b : Bool) → b ≡ true → b ≡ false → ⊥
+    differ b t f = cc
 
 pub place : (text starts : List ℕ) (offset line : ℕ) → starts ≡ starts_of text → offset ≤ length text → line ≤ length starts
     → (IsPartitionedBy (begun offset) starts → IsPartitionPoint (λ s. begun offset s ≡ true) (λ s. begun offset s ≡ false) starts line)

@@ -1,7 +1,6 @@
 -- Brackets among the tokens.
-use Rattle.std.specs.Prelude.{ℕ, Bool, true, false, List, [], ◌∷◌, ◌++◌, ◌-◌, ◌==◌, ◌||◌, ◌&&◌, if◌then◌else◌, nat_lt, Option, Some, None, length, take, slice_index}
+use Rattle.std.specs.Prelude.{ℕ, Bool, List, [], ◌∷◌, ◌++◌, ◌-◌, ◌==◌, ◌||◌, ◌&&◌, if◌then◌else◌, nat_lt, Option, Some, None, length, take, slice_index}
 use Rattle.c_tokens.specs.declared.token.Token.{Token}
-use Rattle.c_tokens.specs.declared.token.TokenKind.{TokenKind}
 use Rattle.c_tokens.specs.declared.token.TokenKind.TheVariants.{Name, Number, Char, Text, Punct}
 
 -- the byte of a punctuator where it begins, and 0 for another token
@@ -35,7 +34,7 @@ unbalanced_at text opened [] = first_of opened
 unbalanced_at text opened (t ∷ ts) =
     if opens (mark_of text t) then unbalanced_at text (opened ++ t.span.from ∷ []) ts
     else if closes (mark_of text t) then
-        (if closes_last text opened (mark_of text t)
-            then unbalanced_at text (take (length opened - 1) opened) ts
-            else Some t.span.from)
+    (if closes_last text opened (mark_of text t)
+    then unbalanced_at text (take (length opened - 1) opened) ts
+    else Some t.span.from)
     else unbalanced_at text opened ts

@@ -6,3 +6,7 @@ pub mod Brackets
 pub mod Tokens
 pub mod Lines
 pub mod Splice
+pub mod Spelling
+pub mod White
+pub mod Balance
+pub mod Cut

@@ -1,9 +1,7 @@
 -- The tokens of a text, or its one fault (C11 6.4 in this project's profile).
-use Rattle.std.specs.Prelude.{◌≡◌, ℕ, List, [], ◌∷◌, ◌++◌, ◌+◌, ◌<◌, ◌≤◌, nat_lt, if◌then◌else◌, Option, Some, None, Result, Ok, Err}
+use Rattle.std.specs.Prelude.{◌≡◌, ℕ, List, [], ◌∷◌, ◌+◌, nat_lt, if◌then◌else◌, Option, Some, None, Result, Ok, Err}
 use Rattle.c_tokens.specs.declared.token.Token.{Token}
-use Rattle.c_tokens.specs.declared.token.Tokens.{Tokens}
 use Rattle.c_tokens.specs.declared.token.TokenKind.{TokenKind}
-use Rattle.c_tokens.specs.declared.item.Item.{Item}
 use Rattle.c_tokens.specs.declared.item.Item.TheVariants as items
 use Rattle.c_tokens.specs.declared.token_end.TokenEnd.{TokenEnd}
 use Rattle.c_tokens.specs.declared.token_end.TokenEnd.TheVariants as ends
@@ -23,7 +21,7 @@ tokens_from text until i [] = Ok []
 tokens_from text until i (b ∷ bs) =
     if nat_lt i until then tokens_from text until (i + 1) bs
     else elim (item_at text i) [
-        items.White e ↦ tokens_from text e (i + 1) bs
+      | items.White e ↦ tokens_from text e (i + 1) bs
       | items.Piece kind e ↦ with_first (token kind i e) (tokens_from text e (i + 1) bs)
       | items.OpenString ↦ Err (ends.OpenString i)
       | items.OpenComment ↦ Err (ends.OpenComment i)

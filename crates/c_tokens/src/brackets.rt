@@ -53,7 +53,11 @@ fn closes_last(text: &[u8], opened: &[u32], b: u8) -> bool
 
 /// The offset of the first bracket that is unbalanced, if one is.
 #[tactic(auto, using(crate::proofs::BracketLemmas::bracket_steps))]
-pub fn unbalanced_at(alloc: Global, text: &[u8], tokens: &[Token]) -> Result<Option<u32>, AllocError>
+pub fn unbalanced_at(
+    alloc: Global,
+    text: &[u8],
+    tokens: &[Token],
+) -> Result<Option<u32>, AllocError>
     ensures { IfOk result (λ o. o ≡ unbalanced_at text.now [] tokens.now) }
 {
     let mut opened = Vec::new(alloc);

@@ -5,7 +5,7 @@ ghost use Rattle.std.specs.List.{take_while};
 ghost use Rattle.c_tokens.specs.Bytes.{continues_name};
 ghost use Rattle.c_tokens.specs.Ends.{name_end, number_end, literal_end, comment_end, line_end};
 
-use crate::bytes::{is_pair_at, continues_name, continues_number, is_exponent, is_sign};
+use crate::bytes::{continues_name, continues_number, is_exponent, is_pair_at, is_sign};
 
 /// How many bytes from the front on go on with a name.
 fn name_len(bytes: &[u8]) -> usize

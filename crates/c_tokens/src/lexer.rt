@@ -1,6 +1,7 @@
 //! From a text to its tokens.
 
 ghost use Rattle.std.specs.Prelude.{◌≡◌, ℕ, ◌<◌, length, IfOk};
+ghost use Rattle.c_tokens.specs.Cut.{Explains, ExplainsScan, IsOrdered};
 ghost use Rattle.c_tokens.specs.Tokens.{Gives, token, tokens_from, tokens_of};
 
 use crate::brackets::unbalanced_at;
@@ -27,7 +28,8 @@ fn token(kind: TokenKind, from: usize, to: usize) -> Token
 #[tactic(auto, using(crate::proofs::ScanLemmas::scan_steps))]
 fn scan(alloc: Global, text: &[u8]) -> Result<Items<Token>, TokenEnd>
     requires { length text.now < 4294967295 }
-    ensures { Gives (λ ts. ts) result (tokens_from text.now 0 0 text.now) }
+    ensures is { Gives (λ ts. ts) result (tokens_from text.now 0 0 text.now) }
+    ensures explained { ExplainsScan text.now result }
 {
     let mut list = Items::new(alloc);
     let mut i = 0;
@@ -54,7 +56,12 @@ fn scan(alloc: Global, text: &[u8]) -> Result<Items<Token>, TokenEnd>
 #[tactic(auto, unfolding(crate::specs::Tokens::tokens_of))]
 pub fn tokens(alloc: Global, text: &[u8]) -> Result<Tokens, TokenEnd>
     requires { length text.now < 4294967295 }
+    // Exactly the definition's answer, unless memory runs out.
     ensures is { Gives (λ t. t.list) result (tokens_of text.now) }
+    // The spans are in order, apart, not empty, and inside the text.
+    ensures ordered { IfOk result (λ t. IsOrdered 0 t.list (length text.now)) }
+    // Tokens are the longest there, between them is only white space, and brackets match; a fault is the first from the left.
+    ensures explained { Explains text.now result }
 {
     let list = scan(alloc, text)?;
     match unbalanced_at(alloc, text, list.as_slice())? {

@@ -10,13 +10,15 @@ mod lexer;
 mod line_starts;
 mod lines;
 mod punctuator;
-
 mod token;
 mod token_end;
 
+pub use edits::splice;
 pub use lexer::tokens;
 pub use line_starts::LineStarts;
 pub use lines::line_col;
-pub use edits::splice;
 pub use token::{Token, TokenKind, Tokens};
 pub use token_end::TokenEnd;
+
+#[cfg(test)]
+mod tests;

@@ -1,4 +1,4 @@
-use Rattle.std.proofs.Common.{◌≤◌, ◌∙◌, length, arith}
+use Rattle.std.proofs.Common.{◌∙◌, arith}
 use Rattle.c_tokens.proofs.SpliceLemmas.{splice-end, splice-more, apart-le, apart-more}
 use Rattle.c_tokens.proofs.edits.splice.Goals as goal
 
@@ -10,10 +10,12 @@ write_edit-requires c =
 
 pub loop-edit-preserved : goal.loop-edit-preserved
 loop-edit-preserved c =
-    let apart = apart-more _ c.args.edits.now _ c.loop-edit.edit-index c.edit-item.result c.loop-edit-test.true c.edit-item.is c.loop-edit.invariant.1 in
-    (apart-le _ _ _ apart.2, apart.2,
-     splice-more c.args.text.now c.loop-edit.out.items _ c.loop-edit.from c.args.edits.now c.loop-edit.edit-index c.edit-item.result _
-        c.loop-edit-test.true c.edit-item.is c.in_ok-write_edit.ensures c.loop-edit.invariant.2)
+    let apart = apart-more _ c.args.edits.now _ c.loop-edit.edit-index c.edit-item.result c.loop-edit-test.true c.edit-item.is c.loop-edit.invariant.1 in (
+      apart-le _ _ _ apart.2,
+      apart.2,
+      splice-more c.args.text.now c.loop-edit.out.items _ c.loop-edit.from c.args.edits.now c.loop-edit.edit-index c.edit-item.result _
+          c.loop-edit-test.true c.edit-item.is c.in_ok-write_edit.ensures c.loop-edit.invariant.2,
+    )
 
 pub returns : goal.returns
 returns c =

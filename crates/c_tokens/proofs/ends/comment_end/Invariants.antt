@@ -1,4 +1,4 @@
-use Rattle.std.proofs.Common.{◌≡◌, ◌-◌, ◌≤◌, Bool, false, length, drop}
+use Rattle.std.proofs.Common.{◌≡◌, ◌-◌, ◌≤◌, length, drop}
 use Rattle.c_tokens.specs.Ends.{comment_end}
 use Rattle.c_tokens.proofs.ends.comment_end.Given as goal
 

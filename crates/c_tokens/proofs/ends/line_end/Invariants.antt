@@ -1,4 +1,4 @@
-use Rattle.std.proofs.Common.{◌≡◌, ◌-◌, ◌≤◌, Bool, false, length, drop}
+use Rattle.std.proofs.Common.{◌≡◌, ◌-◌, ◌≤◌, false, length, drop}
 use Rattle.c_tokens.specs.Ends.{line_end}
 use Rattle.c_tokens.proofs.ends.line_end.Given as goal
 

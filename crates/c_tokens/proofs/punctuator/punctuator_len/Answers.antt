@@ -1,4 +1,4 @@
-use Rattle.std.proofs.Common.{◌≡◌, ◌+◌, ◌≤◌, arith, drop, length}
+use Rattle.std.proofs.Common.{◌≡◌, arith, drop}
 use Rattle.c_tokens.specs.Puncts.{punctuator_len}
 use Rattle.c_tokens.proofs.PunctLemmas.{punctuator_len-at, punctuator_fits}
 use Rattle.c_tokens.proofs.punctuator.punctuator_len.Goals as goal
