@@ -1,11 +1,10 @@
 -- What a run prints and how it ends, as its words and the files say.
-use Rattle.std.specs.Prelude.{ℕ, ◌+◌, nat_lt, List, [], ◌∷◌, length, Option, None, Some, Result, Ok, Err, if◌then◌else◌}
+use Rattle.std.specs.Prelude.{ℕ, ◌+◌, nat_lt, List, [], ◌∷◌, length, Option, None, Some, option_map, Result, Ok, Err, if◌then◌else◌}
 use Rattle.asm_core.specs.Interface.{interface_of}
 use Rattle.asm_core.specs.declared.statement.Body.{Body}
 use Rattle.asm_core.specs.declared.statement.Statement.{Statement}
-use Rattle.asm_core.specs.declared.sym.Sym.{Sym}
 use Rattle.asm_core.specs.declared.finding.Finding.{Finding}
-use Rattle.blk_check.specs.Judged.{lines_in}
+use Rattle.blk_check.specs.FirstForm.{first_form_of}
 use Rattle.blk_check.specs.Verdict.{verdict_of}
 use Rattle.c_tokens.specs.Tokens.{tokens_of}
 use Rattle.c_tokens.specs.Lines.{line_col_of}
@@ -29,35 +28,27 @@ abbrev pub status_with : List Finding → Status
 status_with [] = Status.Done
 status_with (f ∷ fs) = Status.Rejected
 
--- a judged statement
-pub record Judgement : Type 0 where
-  pub statement : Statement
-  pub lines : List Sym
+-- what is wrong with a statement that is judged so far; none of another one
+abbrev pub body_findings : Body → Option (List Finding)
+body_findings (Body.Parts parts) = option_map (verdict_of (interface_of parts)) (first_form_of parts)
+body_findings (Body.Outside mark) = None
 
-abbrev pub judgement_from : Statement → Option (List Sym) → Option Judgement
-judgement_from s None = None
-judgement_from s (Some lines) = Some (record { statement = s; lines = lines })
+abbrev pub findings_in : Statement → Option (List Finding)
+findings_in s = body_findings s.body
 
-abbrev pub judgement_with : Option Statement → Option Judgement
-judgement_with None = None
-judgement_with (Some s) = judgement_from s (lines_in s)
+-- the answer to a statement at an offset of a file
+abbrev pub judged_answer : List ℕ → List ℕ → ℕ → Option (List Finding) → Answer
+judged_answer name text offset None = answer (not_yet_line name) Status.NotYet
+judged_answer name text offset (Some findings) =
+    answer (statement_lines (place_text name (line_col_of text offset)) findings) (status_with findings)
 
--- the one statement of a file that is judged so far
-abbrev pub judgement_of : List ℕ → Option Judgement
-judgement_of text = judgement_with (statement_of text)
-
--- what is wrong with it
-abbrev pub findings_of : Judgement → List Finding
-findings_of j = elim j.statement.body [ Body.Parts parts ↦ verdict_of (interface_of parts) j.lines | Body.Outside mark ↦ [] ]
-
-abbrev pub judged_answer : List ℕ → List ℕ → Option Judgement → Answer
-judged_answer name text None = answer (not_yet_line name) Status.NotYet
-judged_answer name text (Some j) =
-    answer (statement_lines (place_text name (line_col_of text j.statement.span.from)) (findings_of j)) (status_with (findings_of j))
+abbrev pub statement_answer : List ℕ → List ℕ → Option Statement → Answer
+statement_answer name text None = answer (not_yet_line name) Status.NotYet
+statement_answer name text (Some s) = judged_answer name text s.span.from (findings_in s)
 
 abbrev pub tokens_answer : List ℕ → List ℕ → Result (List Token) TokenEnd → Answer
 tokens_answer name text (Err end) = answer (bad_text_line name text end) Status.BadText
-tokens_answer name text (Ok tokens) = judged_answer name text (judgement_of text)
+tokens_answer name text (Ok tokens) = statement_answer name text (statement_of text)
 
 -- what is printed of a file that holds these bytes
 abbrev pub file_answer : List ℕ → List ℕ → Answer

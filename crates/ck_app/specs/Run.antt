@@ -1,16 +1,18 @@
--- What `run` promises of its output, beside the answer.
-use Rattle.std.specs.Prelude.{◌≡◌, ◌⊎◌, ℕ, List, Bool, Option, None, Some, IsTrue}
-use Rattle.asm_core.specs.Interface.{interface_of}
-use Rattle.asm_core.specs.Frame.{KeepsFrame}
+-- What `run` promises of what it prints and how it ends.
+use Rattle.std.specs.Prelude.{◌≡◌, ◌⊎◌, ℕ, ◌&&◌, List, Bool, true, false, IsTrue, Option, None, Some, IsSome}
 use Rattle.asm_core.specs.Lists.{IsMember}
-use Rattle.asm_core.specs.declared.statement.Parts.{Parts}
-use Rattle.asm_core.specs.declared.statement.Body.{Body}
 use Rattle.ck_ports.specs.Faults.{Rose, RisesAt}
 use Rattle.ck_ports.specs.Outside.{Outside}
 use Rattle.ck_ports.specs.Written.{Written, Writes, WritesPrefix}
-use Rattle.ck_app.specs.Answer.{Judgement, judgement_of}
+use Rattle.ck_app.specs.Answer.{Answer, read_answer}
+use Rattle.ck_app.specs.Judge.{KeepsFrames}
 use Rattle.ck_app.specs.Report.{cannot_be_read_line}
-use Rattle.ck_app.specs.Words.{Command, command_of, names_read}
+use Rattle.ck_app.specs.Words.{Command, names_read}
+use Rattle.ck_app.specs.declared.status.Status.{Status}
+
+-- both the files and the sink tell what they hold
+abbrev pub Tells : Outside → Written → Type 0
+Tells files out = IsTrue files.tells × IsTrue out.tells
 
 -- a file that the words tell to read could not be read: the reading count has risen, last at its name
 pub record HasReadFault (command : Option Command) (old new : Outside) : Type 0 where
@@ -18,16 +20,66 @@ pub record HasReadFault (command : Option Command) (old new : Outside) : Type 0 
   pub is_read : IsMember name (names_read command)
   pub rises : RisesAt old.tells name old.reading new.reading
 
--- and just the line that says so was printed, where bytes are told
-abbrev pub PrintsReadFault : Option Command → Outside → Outside → Written → Written → Type 0
-PrintsReadFault command old new before after =
-    (fault : HasReadFault command old new) × (IsTrue before.tells → Writes (cannot_be_read_line fault.name) before after)
+-- the line that says so, and no other, was printed
+pub record PrintsReadFault (command : Option Command) (old new : Outside) (before after : Written) : Type 0 where
+  pub fault : HasReadFault command old new
+  pub line : Writes (cannot_be_read_line fault.name) before after
+
+-- a prefix of that line was printed
+pub record PrintsPartOfReadFault (command : Option Command) (old new : Outside) (before after : Written) : Type 0 where
+  pub fault : HasReadFault command old new
+  pub part : WritesPrefix (cannot_be_read_line fault.name) before after
 
 -- a prefix of the answer was printed or, where a file could not be read, of the line that says so
-abbrev pub PrintsPart : Option Command → List ℕ → Outside → Outside → Written → Written → Type 0
-PrintsPart command printed old new before after =
-    WritesPrefix printed before after ⊎ ((fault : HasReadFault command old new) × WritesPrefix (cannot_be_read_line fault.name) before after)
+abbrev pub PrintsPart : Option Command → Answer → Outside → Outside → Written → Written → Type 0
+PrintsPart command a old new before after = WritesPrefix a.printed before after ⊎ PrintsPartOfReadFault command old new before after
 
--- the statement of the file, if it is one that is judged so far, changes only what it declares
-abbrev pub KeepsFrames : List ℕ → Type 0
-KeepsFrames text = (j : Judgement) (parts : Parts) → judgement_of text ≡ Some j → j.statement.body ≡ Body.Parts parts → KeepsFrame (interface_of parts) j.lines
+-- the whole answer was printed, and the run ends as it says
+pub record GivesAnswer (a : Answer) (status : Status) (before after : Written) : Type 0 where
+  pub status_is : status ≡ a.status
+  pub prints : Writes a.printed before after
+
+-- what was printed, by how the run ended
+abbrev pub Prints : Status → Option Command → Answer → Outside → Outside → Written → Written → Type 0
+Prints Status.ReadFault command a old new before after = PrintsReadFault command old new before after
+Prints Status.WriteFault command a old new before after = PrintsPart command a old new before after
+Prints Status.Memory command a old new before after = PrintsPart command a old new before after
+Prints status command a old new before after = GivesAnswer a status before after
+
+-- why a run ended so, whatever is told
+abbrev pub HasCause : Status → Option Command → Outside → Outside → Written → Written → Type 0
+HasCause Status.Usage command old new before after = command ≡ None
+HasCause Status.ReadFault command old new before after = HasReadFault command old new
+HasCause Status.WriteFault command old new before after = Rose before.faults after.faults
+HasCause Status.Memory command old new before after = Unit {0}
+HasCause status command old new before after = IsSome command
+
+-- every statement that is printed `ok` changes only what it declares
+abbrev pub OkIsFramed : Option Command → Outside → Type 0
+OkIsFramed None files = Unit {0}
+OkIsFramed (Some (Command.Check name)) files = (text : List ℕ) → files.file name ≡ Some text → KeepsFrames text
+
+-- a run may end so once something was printed
+abbrev pub is_page_status : Status → Bool
+is_page_status Status.WriteFault = false
+is_page_status Status.Memory = false
+is_page_status status = true
+
+-- the answer is this text, and the run ends so
+pub record GivesText (a : Answer) (status : Status) (text : List ℕ) : Type 0 where
+  pub status_is : status ≡ a.status
+  pub text_is : text ≡ a.printed
+
+-- what became of printing a text, after which the run was to end so
+abbrev pub IsPrinted : Status → Status → List ℕ → Written → Written → Type 0
+IsPrinted Status.WriteFault asked text before after = Rose before.faults after.faults × (IsTrue before.tells → WritesPrefix text before after)
+IsPrinted Status.Memory asked text before after = IsTrue before.tells → WritesPrefix text before after
+IsPrinted status asked text before after = (status ≡ asked) × (IsTrue before.tells → Writes text before after)
+
+-- the text and the status are those of a file that was read, or tell that it could not be read
+abbrev pub IsPageOf : Status → List ℕ → List ℕ → Outside → Outside → Type 0
+IsPageOf Status.ReadFault text name old new = RisesAt old.tells name old.reading new.reading × (text ≡ cannot_be_read_line name)
+IsPageOf Status.Usage text name old new = ⊥
+IsPageOf Status.WriteFault text name old new = ⊥
+IsPageOf Status.Memory text name old new = ⊥
+IsPageOf status text name old new = IsTrue old.tells → GivesText (read_answer name (old.file name)) status text

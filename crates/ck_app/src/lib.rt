@@ -2,8 +2,11 @@
 #![tactic(auto)]
 
 mod first_file;
+mod judge;
 mod report;
+mod runner;
 mod status;
 mod words;
 
+pub use runner::run;
 pub use status::Status;

@@ -1,11 +1,11 @@
-ghost use Rattle.std.specs.Prelude.{◌≡◌, ◌++◌, Some, IfOk, OnOk};
+ghost use Rattle.std.specs.Prelude.{◌≡◌, ◌<◌, ◌++◌, Some, length, IfOk, OnOk};
 ghost use Rattle.std.specs.List.{flat_map};
 ghost use Rattle.std.specs.String.{string_bytes};
 ghost use Rattle.ck_app.specs.Report.{statement_lines, finding_line, place_text, bad_text_line, fault_of, cannot_be_read_line, too_large_line, not_yet_line};
 ghost use Rattle.c_tokens.specs.Lines.{line_col_of};
 
 use asm_core::{Finding, Memory};
-use c_tokens::TokenEnd;
+use c_tokens::{TokenEnd, line_col};
 use std::alloc::Global;
 use std::fmt;
 use std::fmt::Write;
@@ -23,6 +23,19 @@ impl fmt::Display for Place<'_> {
 
     fn fmt<W: fmt::Write>(&self, f: &mut fmt::Formatter<W>) -> fmt::Result {
         write!(f, "{}:{}:{}: ", self.name, self.line, self.column)
+    }
+}
+
+impl<'a> Place<'a> {
+    ghost use Rattle.ck_app.specs.Place.{IsPlaceOf};
+
+    /// The place of an offset of the text; one past the end counts as the end.
+    pub fn of_offset(name: &'a str, text: &[u8], offset: u32) -> Self
+        requires { length text.now < 4294967295 }
+        ensures { IsPlaceOf result name.now (line_col_of text.now offset) }
+    {
+        let (line, column) = line_col(text, offset.min(text.len() as u32));
+        Place { name, line, column }
     }
 }
 
@@ -69,4 +82,28 @@ pub fn not_yet_line(alloc: Global, name: &str) -> Result<String, Memory>
     ensures { IfOk result (λ line. string_bytes line ≡ not_yet_line name.now) }
 {
     Ok(format!(in alloc; "{name}: not yet\n")?)
+}
+
+/// The line of a fault of the text.
+pub fn bad_text_line(alloc: Global, name: &str, text: &[u8], end: TokenEnd) -> Result<String, Memory>
+    requires { length text.now < 4294967295 }
+    ensures { IfOk result (λ line. string_bytes line ≡ bad_text_line name.now text.now end) }
+{
+    let (what, offset) = fault(end);
+    let place = Place::of_offset(name, text, offset);
+    Ok(format!(in alloc; "{place}bad text: {what} at {offset}\n")?)
+}
+
+/// What a fault is called, and its offset.
+fn fault(end: TokenEnd) -> (&'static str, u32)
+    ensures what { result.0.now ≡ (fault_of end).0 }
+    ensures offset { result.1 ≡ (fault_of end).1 }
+{
+    match end {
+        TokenEnd::OpenString(offset) => ("open string", offset),
+        TokenEnd::OpenComment(offset) => ("open comment", offset),
+        TokenEnd::BadByte(offset) => ("bad byte", offset),
+        TokenEnd::Unbalanced(offset) => ("unbalanced bracket", offset),
+        TokenEnd::Memory => ("", 0),
+    }
 }
