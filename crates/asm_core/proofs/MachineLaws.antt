@@ -102,4 +102,4 @@ module _ (goal : ℕ) (m : Machine) where
   move_copies i source dest choice words moves reads writes h =
       at_width (λ next. read_arg dest next ≡ read_arg source m) i.width (on_args i.op (arg_at i 0) (arg_at i 1) goal m)
       (subst (λ op. HoldsAfter (λ next. read_arg dest next ≡ read_arg source m) (on_args op (arg_at i 0) (arg_at i 1) goal m)) (sym moves)
-          (subst₂ (λ s d. HoldsAfter (λ next. read_arg dest next ≡ read_arg source m) (on_args Op.Mov s d goal m)) (sym reads) (sym writes) (values_copy (read_arg source m) (read_arg dest m) dest h.reg_count)))
+      (subst₂ (λ s d. HoldsAfter (λ next. read_arg dest next ≡ read_arg source m) (on_args Op.Mov s d goal m)) (sym reads) (sym writes) (values_copy (read_arg source m) (read_arg dest m) dest h.reg_count)))
