@@ -7,3 +7,4 @@ mod Numbers
 mod Placements
 mod Runs
 mod Shapes
+mod Values

@@ -1,5 +1,5 @@
 -- Reading a flag of a set that was made from truth values.
-use Rattle.std.proofs.Common.{◌≡◌, ℕ, ◌+◌, ◌*◌, ◌/◌, ◌%◌, ◌≤◌, ◌==◌, Bool, true, false, arith, refl, ap, ◌∙◌}
+use Rattle.std.proofs.Common.{◌≡◌, ℕ, ◌+◌, ◌*◌, ◌/◌, ◌%◌, ◌<◌, ◌≤◌, ◌==◌, Bool, true, false, arith, refl, ap, ◌∙◌}
 use Rattle.asm_core.specs.Flag.{flag_in, flag_set, Truths, bit_if}
 use Rattle.asm_core.specs.Rows.{flags_of_sum}
 use Rattle.asm_core.specs.declared.flag.Flag.{Flag}
@@ -73,6 +73,10 @@ module _ (t : Truths) where
   bits : AreBits (bit t.cf) (bit t.pf) (bit t.af) (bit t.zf) (bit t.sf) (bit t.of) (bit t.df)
   bits = record { is_a = bit_small t.cf; is_b = bit_small t.pf; is_c = bit_small t.af; is_d = bit_small t.zf; is_e = bit_small t.sf; is_f = bit_small t.of; is_g = bit_small t.df }
 
+  -- seven bits
+  pub flag_set_small : (flag_set t).0 < 128
+  flag_set_small = let is = number in let small = bits in omega arith
+
   -- a flag of the set is as the truth value says
   pub flag_in-flag_set : (f : Flag) → flag_in f (flag_set t) ≡ truth_of f t
   flag_in-flag_set Cf = ap (λ n. (n / 1 % 2) == 1) number ∙ ap (λ n. n == 1) (bit-0 _ _ _ _ _ _ _ bits) ∙ bit-one t.cf
@@ -87,3 +91,7 @@ module _ (t : Truths) where
 pub sum_keeps_direction : (old : FlagSet) (d s : ℕ) → flag_in Df (flags_of_sum old d s) ≡ flag_in Df old
 unfolding flags_of_sum
 sum_keeps_direction old d s = flag_in-flag_set _ Df
+
+pub flags_of_sum_small : (old : FlagSet) (d s : ℕ) → (flags_of_sum old d s).0 < 128
+unfolding flags_of_sum
+flags_of_sum_small old d s = flag_set_small _

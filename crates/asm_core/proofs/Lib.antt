@@ -1,6 +1,7 @@
 mod Examples
 pub mod FlagLaws
 pub mod Keeping
+pub mod MachineLaws
 pub mod RegisterLaws
 pub mod RowLaws
 pub mod Runs

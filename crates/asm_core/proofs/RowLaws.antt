@@ -48,6 +48,13 @@ flag_kept Op.Add dest Zf s d old unwritten = absurd (unwritten refl)
 flag_kept Op.Add dest Sf s d old unwritten = absurd (unwritten refl)
 flag_kept Op.Add dest Of s d old unwritten = absurd (unwritten refl)
 
+-- a property of every step on the operands is one of the instruction
+pub at_width : (P : Machine → Type 0) (w : Width) (s : Stepped) → HoldsAfter P s → HoldsAfter P (elim w [ Width.L ↦ s | _ ↦ Stepped.Faulted Fault.Access ])
+at_width P Width.B s h = tt
+at_width P Width.W s h = tt
+at_width P Width.L s h = h
+at_width P Width.Q s h = tt
+
 module _ (goal : ℕ) (m : Machine) where
   -- a written register, beside the new flags
   written : (op : Op) (r : Reg) (s d : ℕ) → ChangesOnly (WritesTo op (Some (InstArg.Register r Slice.All))) goal m (record (with_reg r (effect_of op s d m.flags).0 (record m { flags = (effect_of op s d m.flags).1 })) { at = goal })
@@ -74,13 +81,6 @@ module _ (goal : ℕ) (m : Machine) where
   args_keep op None dest = tt
   args_keep op (Some source) None = tt
   args_keep op (Some source) (Some dest) = values_keep op (read_arg source m) (read_arg dest m) dest
-
-  -- a property of every step on the operands is one of the instruction
-  at_width : (P : Machine → Type 0) (w : Width) (s : Stepped) → HoldsAfter P s → HoldsAfter P (elim w [ Width.L ↦ s | _ ↦ Stepped.Faulted Fault.Access ])
-  at_width P Width.B s h = tt
-  at_width P Width.W s h = tt
-  at_width P Width.L s h = h
-  at_width P Width.Q s h = tt
 
   -- a step of an instruction changes only what the instruction writes
   pub row_keeps : (i : Inst) (choice : ℕ) (words : List ℕ) → HoldsAfter (ChangesOnly (Writes i) goal m) (row_step i goal choice words m)

@@ -127,11 +127,11 @@ unfolding lines_from
 lines_from-first zero bytes at from lines e = cc
 lines_from-first (suc more) bytes at from lines e =
     let c = cons_parts (line_of (slice_index at from) (slice_range bytes from (line_end bytes from)))
-        (if line_end bytes from == length bytes then Some [] else (if slice_index bytes (line_end bytes from + 1) == 32 then lines_from more bytes at (line_end bytes from + 2) else None)) lines e in
+    (if line_end bytes from == length bytes then Some [] else (if slice_index bytes (line_end bytes from + 1) == 32 then lines_from more bytes at (line_end bytes from + 2) else None)) lines e in
     let last : AreFirstLines c.rest =
-        ⊎_elim (λ none. subst AreFirstLines (sym none) none_first)
-        (λ goes. lines_from-first more bytes at (line_end bytes from + 2) c.rest (kept_by_test (slice_index bytes (line_end bytes from + 1) == 32) (lines_from more bytes at (line_end bytes from + 2)) c.rest goes).1)
-        (either_way (line_end bytes from == length bytes) [] (if slice_index bytes (line_end bytes from + 1) == 32 then lines_from more bytes at (line_end bytes from + 2) else None) c.rest c.is_rest) in
+    ⊎_elim (λ none. subst AreFirstLines (sym none) none_first)
+    (λ goes. lines_from-first more bytes at (line_end bytes from + 2) c.rest (kept_by_test (slice_index bytes (line_end bytes from + 1) == 32) (lines_from more bytes at (line_end bytes from + 2)) c.rest goes).1)
+    (either_way (line_end bytes from == length bytes) [] (if slice_index bytes (line_end bytes from + 1) == 32 then lines_from more bytes at (line_end bytes from + 2) else None) c.rest c.is_rest) in
     subst AreFirstLines (sym c.is_cons) (more_first c.line c.rest (line_of-first (slice_index at from) (slice_range bytes from (line_end bytes from)) c.line c.is_line) last)
 
 -- what it says of a statement's parts that its form is the first

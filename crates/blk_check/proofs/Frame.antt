@@ -176,8 +176,8 @@ module _ (i : Interface) (s : Shape) (p : Placement) (entry : Machine) (lines : 
           let placed = mapped (instance_of p) (slice_get lines m.at) inst (sym (slice_get-map (instance_of p) lines m.at) ∙ at) in
           subst (λ x. HoldsAfter (Keeps (MayChange i s p entry) entry) (row_step x (slice_index (code_of p lines).goals m.at) choice words m)) (sym placed.2)
           (holds_after_then (Keeps (MayChange i s p entry) m) (Keeps (MayChange i s p entry) entry) (row_step (instance_of p placed.0) (slice_index (code_of p lines).goals m.at) choice words m)
-              (λ next k. keeps_trans (MayChange i s p entry) entry m next h k)
-              (line_keeps o found ok m.at placed.0 placed.1 (first.each m.at placed.0 placed.1) (slice_index (code_of p lines).goals m.at) choice words m))
+          (λ next k. keeps_trans (MayChange i s p entry) entry m next h k)
+          (line_keeps o found ok m.at placed.0 placed.1 (first.each m.at placed.0 placed.1) (slice_index (code_of p lines).goals m.at) choice words m))
 
   on_the_way : (l : Location) → MayChange i s p entry l → MayDiffer i s p entry l
   on_the_way (Location.Register r) w = tt
@@ -205,4 +205,4 @@ accepted_frame parts lines is_first no_findings = record { each = each }
     each s p entry n choices outside shape allowed begins =
         framed (interface_of parts) s p entry lines (run_of (code_of p lines) n choices outside entry)
         (runs_in (Keeps (MayChange (interface_of parts) s p entry) entry) (code_of p lines)
-            (code_keeps (interface_of parts) s p entry lines zeroth.0 zeroth.1 (accepted (interface_of parts) lines no_findings) form.first) n choices outside entry (keeps_refl (MayChange (interface_of parts) s p entry) entry))
+        (code_keeps (interface_of parts) s p entry lines zeroth.0 zeroth.1 (accepted (interface_of parts) lines no_findings) form.first) n choices outside entry (keeps_refl (MayChange (interface_of parts) s p entry) entry))

@@ -4,10 +4,10 @@ use Rattle.asm_core.specs.Machine.{covers, byte_at, layouts_of}
 use Rattle.asm_core.specs.Entry.{word_at}
 use Rattle.asm_core.specs.declared.machine.Range.{Range}
 
-abbrev low : Range
+abbrev pub low : Range
 low = record { base = 100; bytes = 10 ∷ 20 ∷ 30 ∷ []; writable = true; owner = None }
 
-abbrev high : Range
+abbrev pub high : Range
 high = record { base = 103; bytes = 40 ∷ []; writable = false; owner = None }
 
 below : covers low 99 ≡ false

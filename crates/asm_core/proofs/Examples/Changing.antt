@@ -173,10 +173,14 @@ may_begin_in_memory = record {
     owned r k member owner =
         let same = only_range r member in
         let is_owner : Some 0 ≡ Some k = sym (ap (λ (q : Range). q.owner) same) ∙ owner in
-        let zeroth : k ≡ 0 = cc in
-        (subst (λ n. IsChanging writing n) (sym zeroth) changing,
-            (output, subst (λ n. HasObject writing memory_shape memory_placement stored n output r.base) (sym zeroth) (subst (λ (q : Range). HasObject writing memory_shape memory_placement stored 0 output q.base) (sym same) the_object),
-                ap (λ (q : Range). length q.bytes) same))
+        let zeroth : k ≡ 0 = cc in (
+          subst (λ n. IsChanging writing n) (sym zeroth) changing,
+          (
+            output,
+            subst (λ n. HasObject writing memory_shape memory_placement stored n output r.base) (sym zeroth) (subst (λ (q : Range). HasObject writing memory_shape memory_placement stored 0 output q.base) (sym same) the_object),
+            ap (λ (q : Range). length q.bytes) same,
+          ),
+        )
 
 -- ---- states in which the block may not begin
 

@@ -1,8 +1,10 @@
 -- A state in which `"=r"(y):"r"(x)` may begin, with both operands in eax and no memory.
-use Rattle.std.proofs.Common.{◌≡◌, ℕ, zero, suc, ◌<◌, nat_lt, pos, List, [], ◌∷◌, replicate, All, true, None, slice_index_or, codes, refl, sym, ◌∙◌, arith}
+use Rattle.std.proofs.Common.{◌≡◌, inl, ℕ, zero, suc, ◌<◌, nat_lt, pos, List, [], ◌∷◌, replicate, All, true, None, slice_index_or, codes, refl, sym, ◌∙◌, arith}
 use Rattle.std.specs.List.{list_all}
 use Rattle.std.proofs.lemmas.Bool.{ltb-true}
 use Rattle.std.proofs.lemmas.List.Sums.{AllPass-from_list_all}
+use Rattle.asm_core.specs.Lists.{IsMember}
+use Rattle.asm_core.specs.Shape.{shapes_of}
 use Rattle.asm_core.specs.Interface.{interface_of}
 use Rattle.asm_core.specs.Machine.{IsMachine}
 use Rattle.asm_core.specs.Placement.{spot_of}
@@ -27,6 +29,9 @@ part constraint = record { name = None; constraint = quoted constraint; expr = n
 -- the interface of `"=r"(y):"r"(x)`
 of_copying : interface_of (record { template = quoted []; outputs = part (codes "=r") ∷ []; inputs = part (codes "r") ∷ []; clobbers = []; colons = 2; last = 0; bad_template = None }) ≡ copying
 of_copying = refl
+
+its_shape : IsMember registers (shapes_of copying)
+its_shape = inl refl
 
 pub all_below : (n : ℕ) (xs : List ℕ) → list_all (λ x. nat_lt x n) xs ≡ true → All (λ x. x < n) xs
 all_below n xs e = λ k d h. ltb-true _ _ (AllPass-from_list_all (λ x. nat_lt x n) xs e k d h)

@@ -21,7 +21,7 @@ interface operands = record { operands = operands; clobbers = no_regs; cc = fals
 abbrev pub shape : ℕ → List Kind → Shape
 shape alternative kinds = record { alternative = alternative; kinds = kinds }
 
--- the letters `r`, `rm`, `ri` and `m`
+-- the letters `r`, `rm`, `rmI` and `m`, and a tie
 abbrev pub r : AltIface
 r = any_register
 
