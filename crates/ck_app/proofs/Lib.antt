@@ -1,3 +1,4 @@
 mod Counting
 mod FrameLaws
 mod PrintLaws
+mod PageLaws

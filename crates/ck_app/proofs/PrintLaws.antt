@@ -1,20 +1,20 @@
 -- From pages to what a run has printed.
-use Rattle.std.proofs.Common.{◌≡◌, ◌⊎◌, inl, inr, ℕ, ◌≤◌, List, [], Option, Some, true, refl, sym, ◌∙◌, ap, subst, arith, length, take, IsTrue}
+use Rattle.std.proofs.Common.{◌≡◌, ◌⊎◌, inl, inr, ℕ, ◌≤◌, List, [], Option, None, Some, true, refl, sym, ◌∙◌, ap, subst, arith, length, take, IsTrue}
 use Rattle.std.proofs.lemmas.List.{append-nil}
 use Rattle.ck_ports.specs.Faults.{Rose, RisesAt}
 use Rattle.ck_ports.specs.Outside.{Outside}
 use Rattle.ck_ports.specs.Written.{Written, Writes, WritesPrefix}
-use Rattle.ck_app.specs.Answer.{Answer, read_answer}
+use Rattle.ck_app.specs.Answer.{Answer, read_answer, command_answer}
 use Rattle.ck_app.specs.Report.{cannot_be_read_line}
 use Rattle.ck_app.specs.Run.{Tells, HasReadFault, PrintsReadFault, PrintsPartOfReadFault, PrintsPart, GivesAnswer, GivesText, Prints, HasCause, IsPageOf, IsPrinted, is_page_status}
-use Rattle.ck_app.specs.Words.{Command}
+use Rattle.ck_app.specs.Words.{Command, usage_line}
 use Rattle.ck_app.specs.declared.status.Status.{Status}
 
 pub nothing_written : (text : List ℕ) (w : Written) → WritesPrefix text w w
 nothing_written text w = (0, omega arith, sym (append-nil w.bytes))
 
 -- each command reads its file
-read_here : (name : List ℕ) (old new : Outside) → RisesAt old.tells name old.reading new.reading → HasReadFault (Some (Command.Check name)) old new
+abbrev read_here : (name : List ℕ) (old new : Outside) → RisesAt old.tells name old.reading new.reading → HasReadFault (Some (Command.Check name)) old new
 read_here name old new rises = record { name = name; is_read = inl refl; rises = rises }
 
 gives : (a : Answer) (status : Status) (text : List ℕ) (before after : Written) → GivesText a status text → Writes text before after → GivesAnswer a status before after
@@ -71,11 +71,11 @@ module _ (name : List ℕ) (old new : Outside) (before after : Written) (text : 
   page_cause Status.Memory asked page printed = tt
   page_cause Status.ReadFault asked page printed = let here = same_page Status.ReadFault asked printed.0 page in read_here name old new here.0
   page_cause Status.Usage asked page printed = absurd (same_page Status.Usage asked printed.0 page)
-  page_cause Status.Done asked page printed = tt
-  page_cause Status.Rejected asked page printed = tt
-  page_cause Status.BadText asked page printed = tt
-  page_cause Status.TooLarge asked page printed = tt
-  page_cause Status.NotYet asked page printed = tt
+  page_cause Status.Done asked page printed = refl
+  page_cause Status.Rejected asked page printed = refl
+  page_cause Status.BadText asked page printed = refl
+  page_cause Status.TooLarge asked page printed = refl
+  page_cause Status.NotYet asked page printed = refl
 
   -- a run is done only where the page says so
   pub page_done : (result asked : Status) → IsPrinted result asked text before after → result ≡ Status.Done → asked ≡ Status.Done
@@ -86,3 +86,23 @@ pub page_status : (status : Status) (text name : List ℕ) (old new : Outside) �
 page_status Status.WriteFault text name old new page = absurd page
 page_status Status.Memory text name old new page = absurd page
 page_status status text name old new page = refl
+
+-- what printing the usage makes of the run
+pub usage_prints : (files : List ℕ → Option (List ℕ)) (command : Option Command) (old new : Outside) (before after : Written) (result : Status) → command ≡ None
+    → IsPrinted result Status.Usage usage_line before after → Tells old before → Prints result command (command_answer command files) old new before after
+usage_prints files command old new before after result none printed told =
+    subst (λ c. Prints result c (command_answer c files) old new before after) (sym none) (here result printed)
+  where
+    whole : (status : Status) → status ≡ Status.Usage → Writes usage_line before after → GivesAnswer (command_answer None files) status before after
+    whole status is w = record { status_is = is; prints = w }
+
+    here : (status : Status) → IsPrinted status Status.Usage usage_line before after → Prints status None (command_answer None files) old new before after
+    here Status.WriteFault p = inl (p.1 told.1)
+    here Status.Memory p = inl (p told.1)
+    here Status.ReadFault p = let no : Status.ReadFault ≡ Status.Usage = p.0 in cc
+    here Status.Usage p = whole Status.Usage p.0 (p.1 told.1)
+    here Status.Done p = whole Status.Done p.0 (p.1 told.1)
+    here Status.Rejected p = whole Status.Rejected p.0 (p.1 told.1)
+    here Status.BadText p = whole Status.BadText p.0 (p.1 told.1)
+    here Status.TooLarge p = whole Status.TooLarge p.0 (p.1 told.1)
+    here Status.NotYet p = whole Status.NotYet p.0 (p.1 told.1)

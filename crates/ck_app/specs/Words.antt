@@ -1,10 +1,12 @@
 -- What the words of a call ask for. The first word is the program's name.
 use Rattle.std.specs.Prelude.{ℕ, ◌==◌, ◌&&◌, not, List, [], ◌∷◌, codes, Option, None, Some, slice_index, if◌then◌else◌}
 use Rattle.blk_check.specs.FirstForm.{same_text}
-use Rattle.ck_app.specs.declared.words.Command.{Command as CheckedCommand}
 
 pub data Command : Type 0 where
   Check : (file : List ℕ) → Command
+
+abbrev pub check_command : List ℕ → Command
+check_command file = Command.Check file
 
 -- a word that begins with a hyphen-minus is no name
 abbrev pub command_of : List (List ℕ) → Option Command
@@ -19,7 +21,3 @@ names_read (Some (Command.Check file)) = file ∷ []
 
 abbrev pub usage_line : List ℕ
 usage_line = codes "usage: asmck check FILE.. | patch IN OUT | lift IN OUT | try FILE K SEED STEPS | gen SEED COUNT\n"
-
--- the command that code holds
-abbrev pub command_seen : CheckedCommand → Command
-command_seen (CheckedCommand.Check file) = Command.Check file.now

@@ -3,13 +3,13 @@ ghost use Rattle.std.specs.String.{string_bytes};
 ghost use Rattle.ck_ports.specs.declared.files.Mode.TheVariants.{Closed};
 ghost use Rattle.ck_ports.specs.Outside.{SameFiles};
 ghost use Rattle.ck_app.specs.Answer.{answer_of, read_answer};
-ghost use Rattle.ck_app.specs.Words.{Command, command_of};
+ghost use Rattle.ck_app.specs.Words.{check_command, command_of};
 ghost use Rattle.ck_app.specs.Run.{Tells, Prints, HasCause, OkIsFramed, IsPageOf, IsPrinted, is_page_status};
 
 use crate::Status;
 use crate::judge::{Page, judge};
 use crate::report::{cannot_be_read_line, too_large_line};
-use crate::words::Command;
+use crate::words::checked_file;
 use asm_core::Memory;
 use ck_ports::{Files, PortEnd, ReadEnd, Sink, read_all, write_all};
 use std::alloc::Global;
@@ -44,8 +44,8 @@ pub fn run<F: Files, K: Sink>(alloc: Global, words: &[String], files: &mut F, ou
     ensures out_tells { (K.written out.new).tells ≡ (K.written out.old).tells }
     ensures faults { (K.written out.old).faults ≤ (K.written out.new).faults }
 {
-    match Command::from_words(words) {
-        Some(Command::Check(file)) => check_file(alloc, file, files, out),
+    match checked_file(words) {
+        Some(file) => check_file(alloc, file, files, out),
         None => print(out, USAGE.as_bytes(), Status::Usage),
     }
 }
@@ -54,12 +54,12 @@ fn check_file<F: Files, K: Sink>(alloc: Global, name: &str, files: &mut F, out: 
     requires { (F.outside files.old).mode ≡ Closed }
 
     ensures prints { Tells (F.outside files.old) (K.written out.old)
-        → Prints result (Some (Command.Check name.now)) (read_answer name.now ((F.outside files.old).file name.now))
+        → Prints result (Some (check_command name.now)) (read_answer name.now ((F.outside files.old).file name.now))
             (F.outside files.old) (F.outside files.new) (K.written out.old) (K.written out.new) }
-    ensures cause { HasCause result (Some (Command.Check name.now))
+    ensures cause { HasCause result (Some (check_command name.now))
         (F.outside files.old) (F.outside files.new) (K.written out.old) (K.written out.new) }
     ensures framed { Tells (F.outside files.old) (K.written out.old) → result ≡ Status.Done
-        → OkIsFramed (Some (Command.Check name.now)) (F.outside files.old) }
+        → OkIsFramed (Some (check_command name.now)) (F.outside files.old) }
 
     ensures closed { (F.outside files.new).mode ≡ Closed }
     ensures files { SameFiles (F.outside files.old) (F.outside files.new) }
@@ -80,7 +80,7 @@ fn page_of<F: Files>(alloc: Global, name: &str, files: &mut F) -> Result<Page, M
 
     ensures page { IfOk result (λ page. IsPageOf page.status (string_bytes page.text) name.now (F.outside files.old) (F.outside files.new)) }
     ensures framed { IfOk result (λ page. IsTrue (F.outside files.old).tells → page.status ≡ Status.Done
-        → OkIsFramed (Some (Command.Check name.now)) (F.outside files.old)) }
+        → OkIsFramed (Some (check_command name.now)) (F.outside files.old)) }
 
     ensures closed { (F.outside files.new).mode ≡ Closed }
     ensures files { SameFiles (F.outside files.old) (F.outside files.new) }
@@ -88,7 +88,7 @@ fn page_of<F: Files>(alloc: Global, name: &str, files: &mut F) -> Result<Page, M
     ensures tells { (F.outside files.new).tells ≡ (F.outside files.old).tells }
 {
     match read_all(alloc, files, name) {
-        Ok(text) => judge(alloc, name, text.as_slice()),
+        Ok(text) => Ok(judge(alloc, name, text.as_slice())?),
         Err(ReadEnd::Failed) => Ok(Page {
             text: cannot_be_read_line(alloc, name)?,
             status: Status::ReadFault,

@@ -1,28 +1,15 @@
 ghost use Rattle.std.specs.Prelude.{◌≡◌, ◌==◌, map, not, slice_index, option_map};
 ghost use Rattle.std.specs.String.{string_bytes};
-ghost use Rattle.ck_app.specs.Words.{command_of};
+ghost use Rattle.ck_app.specs.Words.{command_of, check_command};
 
-/// What the words of a call ask for.
-#[derive(Clone, Copy, Debug)]
-pub enum Command<'a> {
-    /// Print the report of the file.
-    Check(&'a str),
-}
-
-impl<'a> Command<'a> {
-    ghost use Rattle.ck_app.specs.Words.{command_seen};
-
-    /// The command that the words tell, the first of them being the program's name; none where they are of no known
-    /// form.
-    pub fn from_words(words: &'a [String]) -> Option<Self>
-        ensures { option_map command_seen result ≡ command_of (map string_bytes words.now) }
-    {
-        match words {
-            [_, mode, file] if mode.as_str() == "check" && is_name(file.as_str()) => {
-                Some(Command::Check(file.as_str()))
-            }
-            _ => None,
-        }
+/// The file that the words tell to check, the first of them being the program's name; none where they are of no known
+/// form.
+pub fn checked_file(words: &[String]) -> Option<&str>
+    ensures { option_map (λ file. check_command file.now) result ≡ command_of (map string_bytes words.now) }
+{
+    match words {
+        [_, mode, file] if mode.as_str() == "check" && is_name(file.as_str()) => Some(file.as_str()),
+        _ => None,
     }
 }
 

@@ -1,0 +1,16 @@
+use Rattle.std.proofs.Common.{sym, subst, List, ℕ}
+use Rattle.ck_app.specs.Run.{OkIsFramed, IsPrinted}
+use Rattle.ck_app.specs.declared.status.Status.{Status}
+use Rattle.ck_app.proofs.PrintLaws.{usage_prints}
+use Rattle.ck_app.proofs.runner.run.Goals as goal
+
+pub returns-in-Some-clause-framed : goal.returns-in-Some-clause-framed
+returns-in-Some-clause-framed g c = λ told done.
+    subst (λ command. OkIsFramed command (g.F.Files.outside c.args.files.now)) c.in-Some.ensures (c.check_file.ensures.framed told done)
+
+pub returns-in-None-clause-prints : goal.returns-in-None-clause-prints
+returns-in-None-clause-prints g c = λ told.
+    let before = g.K.Sink.written c.args.out.now in
+    let after = g.K.Sink.written c.print.new.out in
+    let printed = subst (λ (t : List ℕ). IsPrinted c.print.result Status.Usage t before after) c.as_bytes.ensures.value c.print.ensures.printed in
+    usage_prints (g.F.Files.outside c.args.files.now).file _ (g.F.Files.outside c.args.files.now) (g.F.Files.outside c.args.files.now) before after c.print.result (sym c.in-None.ensures) printed told
