@@ -2,25 +2,10 @@
 use Rattle.std.proofs.Common.{◌≡◌, ◌⊎◌, inl, inr, ℕ, ◌≤◌, List, Bool, IsTrue, sym, ◌∙◌, subst, ap, arith}
 use Rattle.ck_ports.specs.Faults.{Faults, Rose, RisesAt, CountsAt}
 
--- a count that has risen has risen since an earlier call
-pub rose_since : (a b c : ℕ) → a ≤ b → Rose b c → Rose a c
-rose_since a b c le (inl lt) = inl (omega arith)
-rose_since a b c le (inr top) = inr top
-
--- and stays risen
+-- a count that has risen stays risen
 pub rose_still : (a b c : ℕ) → Rose a b → b ≤ c → Rose a c
 rose_still a b c (inl lt) le = inl (omega arith)
 rose_still a b c (inr top) le = inr (omega arith)
-
--- nothing was counted
-pub counts_none : (tells : Bool) (name : List ℕ) (a b : Faults) → b ≡ a → CountsAt tells name a b
-counts_none tells name a b same =
-    record { never_falls = omega (arith, ap (λ (f : Faults). f.count) same); either = inl same }
-
--- a rise after a call that counts at the same name
-pub rises_since : (tells : Bool) (name : List ℕ) (a b c : Faults) → a.count ≤ b.count → RisesAt tells name b c → RisesAt tells name a c
-rises_since tells name a b c le rises =
-    record { rose = rose_since a.count b.count c.count le rises.rose; at_name = rises.at_name }
 
 -- a rise before a call that counts at the same name
 pub rises_still : (tells : Bool) (name : List ℕ) (a b c : Faults) → RisesAt tells name a b → CountsAt tells name b c → RisesAt tells name a c

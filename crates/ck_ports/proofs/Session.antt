@@ -2,9 +2,9 @@
 use Rattle.std.proofs.Common.{◌≡◌, ℕ, List, ◌++◌, take, drop, unwrap_or, [], sym, ◌∙◌, ap, append_assoc, arith, Option, Some, None, IsSome, ◌≤◌, length}
 use Rattle.std.proofs.lemmas.List.{append-nil, drop-drop, take-append-drop}
 use Rattle.ck_ports.specs.declared.files.Mode.TheVariants.{Reading}
-use Rattle.ck_ports.specs.Faults.{CountsAt, RisesAt}
+use Rattle.ck_ports.specs.Faults.{CountsAt}
 use Rattle.ck_ports.specs.Outside.{Outside, SameFiles, ReadsNext, content_of, rest_of}
-use Rattle.ck_ports.proofs.Counts.{counts_both, counts_named, rises_since, rises_named}
+use Rattle.ck_ports.proofs.Counts.{counts_both, counts_named}
 
 -- the same file is open for reading, and nothing but its place and the reading count has changed
 pub record Reads (old new : Outside) : Type 0 where
@@ -26,12 +26,6 @@ reads_on old mid new before then = record {
   writing = then.writing ∙ before.writing;
   tells = then.tells ∙ before.tells;
 }
-
--- a rise in that read is a rise since the first
-pub reads_rise : (old mid new : Outside) → Reads old mid → RisesAt mid.tells mid.open_name mid.reading new.reading → RisesAt old.tells old.open_name old.reading new.reading
-reads_rise old mid new before rises =
-    rises_since old.tells old.open_name old.reading mid.reading new.reading before.reading.never_falls
-    (rises_named old.tells mid.tells old.open_name mid.open_name mid.reading new.reading before.tells (λ _. before.open_name) rises)
 
 -- the open file holds what it held
 pub same_content : (old new : Outside) → new.open_name ≡ old.open_name → SameFiles old new → content_of new ≡ content_of old

@@ -1,5 +1,5 @@
 -- What the files of the host tell: the mode and the counts.
-use Rattle.std.specs.Prelude.{ℕ, List, Option, None, [], false}
+use Rattle.std.specs.Prelude.{ℕ, None, [], false}
 use Rattle.ck_ports.specs.declared.files.Mode.{Mode}
 use Rattle.ck_ports.specs.declared.files.Mode.TheVariants as mode
 use Rattle.ck_ports.specs.declared.host_files.OpenFile.{OpenFile}

@@ -1,10 +1,10 @@
 -- What the files in memory tell.
-use Rattle.std.specs.Prelude.{◌≡◌, true, string_bytes}
+use Rattle.std.specs.Prelude.{true, string_bytes}
 use Rattle.ck_ports.specs.declared.calls.Calls.{Calls}
 use Rattle.ck_ports.specs.declared.mem_files.MemFiles.{MemFiles}
 use Rattle.ck_ports.specs.FaultCount.{faults_with}
 use Rattle.ck_ports.specs.FileMap.{bytes_in}
-use Rattle.ck_ports.specs.Outside.{Outside, SameFiles}
+use Rattle.ck_ports.specs.Outside.{Outside}
 
 abbrev pub outside_of : MemFiles → Outside
 outside_of files = record {

@@ -1,7 +1,9 @@
-ghost use Rattle.std.specs.Prelude.{◌≡◌, ◌≤◌, ℕ, List, None, OnOk, OnErr};
+ghost use Rattle.std.specs.Prelude.{◌≡◌, ◌≤◌, ◌↔◌, ℕ, List, if◌then◌else◌, None, IsTrue, OnOk, OnErr};
+ghost use Rattle.ck_ports.specs.Calls.{IsNextToFail, CallsOnce};
 ghost use Rattle.ck_ports.specs.FaultCount.{faults_with};
 ghost use Rattle.ck_ports.specs.Saturating.{one_more};
 
+use crate::calls::Calls;
 use asm_core::Memory;
 use std::alloc::Global;
 
@@ -30,6 +32,20 @@ impl FaultCount {
     {
         self.count = self.count.saturating_add(1);
         self.name = None;
+    }
+
+    /// Makes the next call, and counts a fault at the open name where it is to fail, as it then tells.
+    pub fn next_fails(&mut self, calls: &mut Calls) -> bool
+        ensures to_fail { IsTrue result ↔ IsNextToFail calls.old }
+        ensures once { CallsOnce calls.old calls.new }
+        ensures risen { self.new ≡ (if result then record { count = one_more self.old.count; name = None } else self.old) }
+        ensures never_falls { self.old.count ≤ self.new.count }
+    {
+        let fails = calls.next_fails();
+        if fails {
+            self.rise();
+        }
+        fails
     }
 
     /// Takes the memory to keep the name, so that another one may be opened.

@@ -25,7 +25,7 @@ pub struct MemFiles {
 }
 
 impl MemFiles {
-    ghost use Rattle.std.specs.Prelude.{◌≡◌, ℕ, List, None, Some, true, IfOk, OnOk, OnErr};
+    ghost use Rattle.std.specs.Prelude.{◌≡◌, ℕ, List, [], None, Some, true, IfOk, OnOk, OnErr};
     ghost use Rattle.std.specs.Option.{option_copied};
     ghost use Rattle.ck_ports.specs.FaultCount.{faults_with};
     ghost use Rattle.ck_ports.specs.declared.files.Mode.TheVariants.{Closed};
@@ -37,8 +37,8 @@ impl MemFiles {
     pub fn new(alloc: Global, fail: &[u64]) -> Result<MemFiles, Memory>
         ensures files { IfOk result (λ files. (name : List ℕ) → (outside_of files).file name ≡ None) }
         ensures mode { IfOk result (λ files. (outside_of files).mode ≡ Closed) }
-        ensures reading { IfOk result (λ files. (outside_of files).reading.count ≡ 0) }
-        ensures writing { IfOk result (λ files. (outside_of files).writing.count ≡ 0) }
+        ensures reading { IfOk result (λ files. (outside_of files).reading ≡ record { count = 0; name = [] }) }
+        ensures writing { IfOk result (λ files. (outside_of files).writing ≡ record { count = 0; name = [] }) }
         ensures tells { IfOk result (λ files. (outside_of files).tells ≡ true) }
         ensures calls { IfOk result (λ files. calls_of files ≡ record { so_far = 0; failing = fail.now }) }
     {
@@ -154,8 +154,7 @@ impl Files for MemFiles {
             × ((outside_of self.new).place ≡ (outside_of self.old).place) }
         ensures memory { IsErrOf result PortEnd.Memory → ⊥ }
     {
-        if self.calls.next_fails() {
-            self.reading.rise();
+        if self.reading.next_fails(&mut self.calls) {
             return Err(PortEnd::Failed);
         }
         let count = self.files.read(self.open_name.as_str(), self.place, to);
@@ -218,8 +217,7 @@ impl Files for MemFiles {
             × SameFiles (outside_of self.old) (outside_of self.new) }
         ensures memory { IsErrOf result PortEnd.Memory → ¬ IsNextToFail (calls_of self.old) × SameOutside (outside_of self.old) (outside_of self.new) }
     {
-        if self.calls.next_fails() {
-            self.writing.rise();
+        if self.writing.next_fails(&mut self.calls) {
             return Err(PortEnd::Failed);
         }
         self.files.append(self.open_name.as_str(), piece)?;
@@ -247,16 +245,12 @@ impl Files for MemFiles {
         ensures cause_writing { IsErrOf result PortEnd.Failed → (outside_of self.old).mode ≡ Writing → (outside_of self.new).writing ≡ raised (outside_of self.old).writing (outside_of self.old).open_name }
         ensures memory { IsErrOf result PortEnd.Memory → ⊥ }
     {
-        let mode = self.mode;
-        self.mode = Mode::Closed;
-        if !self.calls.next_fails() {
-            return Ok(());
-        }
-        match mode {
-            Mode::Reading => self.reading.rise(),
-            Mode::Writing => self.writing.rise(),
+        let fails = match self.mode {
+            Mode::Reading => self.reading.next_fails(&mut self.calls),
+            Mode::Writing => self.writing.next_fails(&mut self.calls),
             Mode::Closed => unreachable!(),
-        }
-        Err(PortEnd::Failed)
+        };
+        self.mode = Mode::Closed;
+        if fails { Err(PortEnd::Failed) } else { Ok(()) }
     }
 }

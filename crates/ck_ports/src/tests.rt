@@ -36,20 +36,20 @@ fn reads_a_file_whole_unless_a_call_fails(rt: HostRuntime) -> Result<(), Fail> {
 #[test]
 fn refuses_what_is_missing_or_too_large(rt: HostRuntime) -> Result<(), Fail> {
     let alloc = rt.alloc();
-    let mut files = MemFiles::new(alloc, &[])?;
     for (len, end) in [(16_777_216, None), (16_777_217, Some(ReadEnd::TooLarge))] {
         let content = vec![in alloc; 32u8; len]?;
+        let mut files = MemFiles::new(alloc, &[])?;
         files.put("a.c", &content)?;
         match read_all(alloc, &mut files, "a.c") {
             Ok(bytes) => assert_eq!(rt; (bytes.len(), None), (len, end)),
             Err(other) => assert_eq!(rt; Some(other), end),
         }
+        assert_eq!(rt;
+            read_all(alloc, &mut files, "b.c").err(),
+            Some(ReadEnd::Failed)
+        );
+        assert!(rt; files.get("b.c").is_none());
     }
-    assert_eq!(rt;
-        read_all(alloc, &mut files, "b.c").err(),
-        Some(ReadEnd::Failed)
-    );
-    assert!(rt; files.get("b.c").is_none());
     Ok(())
 }
 
