@@ -1,0 +1,4 @@
+pub mod Greatest
+pub mod Rounded
+pub mod Extended
+pub mod InOrder
