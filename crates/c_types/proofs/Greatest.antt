@@ -15,11 +15,11 @@ pub fold-le : (a b : ℕ) (xs : List ℕ) → a ≤ b → All (λ x. x ≤ b) xs
 fold-le a b [] h all = h
 fold-le a b (x ∷ xs) h all = fold-le (max a x) b xs (max-le h (All-head (λ x. x ≤ b) x xs all)) (All-tail (λ x. x ≤ b) x xs all)
 
-pub all-le-fold : (a : ℕ) (xs : List ℕ) → All (λ x. x ≤ fold max a xs) xs
-all-le-fold a [] = All-nil (λ x. x ≤ a)
-all-le-fold a (x ∷ xs) =
-    let first : x ≤ fold max (max a x) xs = omega (arith, le-fold (max a x) xs, le-max_right a x) in
-    All-cons (λ y. y ≤ fold max (max a x) xs) x xs first (all-le-fold (max a x) xs)
+pub all-le-fold : (of : Extent → ℕ) (a : ℕ) (ms : List Extent) → All (λ m. of m ≤ fold max a (map of ms)) ms
+all-le-fold of a [] = All-nil (λ m. of m ≤ a)
+all-le-fold of a (m ∷ ms) =
+    let first : of m ≤ fold max (max a (of m)) (map of ms) = omega (arith, le-fold (max a (of m)) (map of ms), le-max_right a (of m)) in
+    All-cons (λ e. of e ≤ fold max (max a (of m)) (map of ms)) m ms first (all-le-fold of (max a (of m)) ms)
 
 pub greatest_size-le : (ms : List Extent) → All IsExtent ms → greatest_size ms ≤ LARGEST_SIZE
 greatest_size-le ms all =

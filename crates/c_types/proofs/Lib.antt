@@ -2,3 +2,4 @@ pub mod Greatest
 pub mod Rounded
 pub mod Extended
 pub mod InOrder
+pub mod Laid
