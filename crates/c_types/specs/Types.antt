@@ -1,8 +1,9 @@
 -- What a type is made of, and which structs and unions are known at a place.
 use Rattle.std.specs.Prelude.{ℕ, ◌+◌, Bool, true, false, Option, Some, None, nat_le, nat_lt, slice_get, ◌&&◌, if◌then◌else◌}
 use Rattle.std.specs.Option.{option_and_then}
-use Rattle.c_types.specs.declared.ctype.CType.{CType, fold-CType, out-CType}
+use Rattle.c_types.specs.declared.ctype.CType.{CType, Unknown, fold-CType, out-CType}
 use Rattle.c_types.specs.declared.ctype.CType.TheOpen.{CType-F}
+use Rattle.c_types.specs.declared.ctype.TheConstants.{MOST_LAYERS}
 use Rattle.c_types.specs.declared.tag.Tags.{Tags}
 use Rattle.c_types.specs.declared.tag.Tag.{Tag}
 use Rattle.c_types.specs.declared.tag.TheConstants.{NO_BODY}
@@ -24,6 +25,10 @@ layers_at _ = 0
 -- how many pointers, arrays and functions stand around one another
 abbrev pub layers_of : CType → ℕ
 layers_of = fold-CType ℕ layers_at
+
+-- a type around another, or Unknown where that has all the layers that a type may have
+abbrev pub wrapped : (CType → CType) → CType → CType
+wrapped around inner = if nat_lt (layers_of inner) MOST_LAYERS then around inner else Unknown
 
 -- whether the body has ended at the place
 abbrev pub is_known : ℕ → Tag → Bool

@@ -3,6 +3,9 @@ ghost use Rattle.std.specs.Prelude.{◌≡◌, ◌≤◌, ◌↔◌, IfOk, IsTru
 use asm_core::{Boxed, Memory};
 use std::alloc::Global;
 
+/// The most pointers, arrays and functions that stand around one another in a type (this project's own limit).
+pub const MOST_LAYERS: u32 = 64;
+
 /// A type of C, without its qualifiers.
 #[derive(Debug, Drop)]
 pub enum CType {
@@ -27,7 +30,7 @@ pub enum CType {
 }
 
 impl CType {
-    ghost use Rattle.c_types.specs.Types.{is_flexible, layers_of};
+    ghost use Rattle.c_types.specs.Types.{is_flexible, layers_of, wrapped};
 
     /// Whether it is an array without a length, as the last member of a struct may be (C11 6.7.2.1, 18).
     pub fn is_flexible(&self) -> bool
@@ -37,13 +40,37 @@ impl CType {
     }
 
     /// Whether at most `most` pointers, arrays and functions stand around one another in it.
-    pub fn has_layers(&self, most: u32) -> bool
+    pub fn is_within_layers(&self, most: u32) -> bool
         ensures { IsTrue result ↔ (layers_of self.now ≤ most) }
     {
         match self {
-            CType::Pointer(inner) | CType::Array(inner, _) | CType::Function(inner) => most > 0 && inner.get().has_layers(most - 1),
+            CType::Pointer(inner) | CType::Array(inner, _) | CType::Function(inner) => most > 0 && inner.get().is_within_layers(most - 1),
             _ => true,
         }
+    }
+
+    /// The type `T *`. Like each type of more than `MOST_LAYERS` layers it is `Unknown` if `to` has so many.
+    pub fn pointer_to(alloc: Global, to: CType) -> Result<CType, Memory>
+        ensures is { IfOk result (λ t. t ≡ wrapped CType.Pointer to) }
+        ensures within { layers_of to ≤ MOST_LAYERS → IfOk result (λ t. layers_of t ≤ MOST_LAYERS) }
+    {
+        if to.is_within_layers(MOST_LAYERS - 1) { Ok(CType::Pointer(Boxed::new(alloc, to)?)) } else { Ok(CType::Unknown) }
+    }
+
+    /// The type `T [length]`, without a length where that isn't known; `Unknown` if `element` has `MOST_LAYERS` layers.
+    pub fn array_of(alloc: Global, element: CType, length: Option<u64>) -> Result<CType, Memory>
+        ensures is { IfOk result (λ t. t ≡ wrapped (λ e. CType.Array e length) element) }
+        ensures within { layers_of element ≤ MOST_LAYERS → IfOk result (λ t. layers_of t ≤ MOST_LAYERS) }
+    {
+        if element.is_within_layers(MOST_LAYERS - 1) { Ok(CType::Array(Boxed::new(alloc, element)?, length)) } else { Ok(CType::Unknown) }
+    }
+
+    /// The type of a function with that result; `Unknown` if `gives` has `MOST_LAYERS` layers.
+    pub fn function_giving(alloc: Global, gives: CType) -> Result<CType, Memory>
+        ensures is { IfOk result (λ t. t ≡ wrapped CType.Function gives) }
+        ensures within { layers_of gives ≤ MOST_LAYERS → IfOk result (λ t. layers_of t ≤ MOST_LAYERS) }
+    {
+        if gives.is_within_layers(MOST_LAYERS - 1) { Ok(CType::Function(Boxed::new(alloc, gives)?)) } else { Ok(CType::Unknown) }
     }
 
     /// A second value of the same type.
