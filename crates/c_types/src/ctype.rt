@@ -54,7 +54,7 @@ impl CType {
         ensures is { IfOk result (λ t. t ≡ wrapped CType.Pointer to) }
         ensures within { layers_of to ≤ MOST_LAYERS → IfOk result (λ t. layers_of t ≤ MOST_LAYERS) }
     {
-        if to.is_within_layers(MOST_LAYERS - 1) { Ok(CType::Pointer(Boxed::new(alloc, to)?)) } else { Ok(CType::Unknown) }
+        Ok(boxed(alloc, to)?.map_or(CType::Unknown, CType::Pointer))
     }
 
     /// The type `T [length]`, without a length where that isn't known; `Unknown` if `element` has `MOST_LAYERS` layers.
@@ -62,7 +62,7 @@ impl CType {
         ensures is { IfOk result (λ t. t ≡ wrapped (λ e. CType.Array e length) element) }
         ensures within { layers_of element ≤ MOST_LAYERS → IfOk result (λ t. layers_of t ≤ MOST_LAYERS) }
     {
-        if element.is_within_layers(MOST_LAYERS - 1) { Ok(CType::Array(Boxed::new(alloc, element)?, length)) } else { Ok(CType::Unknown) }
+        Ok(boxed(alloc, element)?.map_or(CType::Unknown, |e| CType::Array(e, length)))
     }
 
     /// The type of a function with that result; `Unknown` if `gives` has `MOST_LAYERS` layers.
@@ -70,7 +70,7 @@ impl CType {
         ensures is { IfOk result (λ t. t ≡ wrapped CType.Function gives) }
         ensures within { layers_of gives ≤ MOST_LAYERS → IfOk result (λ t. layers_of t ≤ MOST_LAYERS) }
     {
-        if gives.is_within_layers(MOST_LAYERS - 1) { Ok(CType::Function(Boxed::new(alloc, gives)?)) } else { Ok(CType::Unknown) }
+        Ok(boxed(alloc, gives)?.map_or(CType::Unknown, CType::Function))
     }
 
     /// A second value of the same type.
@@ -90,4 +90,14 @@ impl CType {
             CType::Unknown => CType::Unknown,
         })
     }
+}
+
+ghost use Rattle.std.specs.Prelude.{Some, None, nat_lt, if◌then◌else◌};
+ghost use Rattle.c_types.specs.Types.{layers_of};
+
+/// The type for one more layer around it, unless it has them all.
+fn boxed(alloc: Global, inner: CType) -> Result<Option<Boxed<CType>>, Memory>
+    ensures { IfOk result (λ b. b ≡ (if nat_lt (layers_of inner) MOST_LAYERS then Some inner else None)) }
+{
+    if inner.is_within_layers(MOST_LAYERS - 1) { Ok(Some(Boxed::new(alloc, inner)?)) } else { Ok(None) }
 }
