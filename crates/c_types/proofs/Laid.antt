@@ -142,6 +142,20 @@ IsLaid-layout joined None sound = tt
 IsLaid-layout true (Some ms) sound = union_laid ms sound
 IsLaid-layout false (Some ms) sound = struct_laid ms sound
 
+IfSome-weaker : {A : Type 0} (P Q : A → Type 0) (o : Option A) → ((x : A) → P x → Q x) → IfSome o P → IfSome o Q
+IfSome-weaker P Q None weaker p = tt
+IfSome-weaker P Q (Some x) weaker p = weaker x p
+
+alignment_of : (joined : Bool) (found : Option (List Extent)) (l : Layout) → IsLaid joined found l → IsAlignment l.align
+alignment_of joined None l laid = absurd laid
+alignment_of joined (Some ms) l laid = laid.alignment
+
+pub IsAlignment-layout : (joined : Bool) (found : Option (List Extent)) → IfSome found (All IsExtent)
+    → IfSome (option_and_then (if joined then union_layout else struct_layout) found) (λ (l : Layout). IsAlignment l.align)
+IsAlignment-layout joined found sound =
+    IfSome-weaker (IsLaid joined found) (λ (l : Layout). IsAlignment l.align) (option_and_then (if joined then union_layout else struct_layout) found)
+        (alignment_of joined found) (IsLaid-layout joined found sound)
+
 pub IfOk-along : {A E : Type 0} (P : A → Type 0) (a : A) (r : Result A E) → P a → IfOk r (λ x. x ≡ a) → IfOk r P
 IfOk-along P a (Ok x) p e = subst P (sym e) p
 IfOk-along P a (Err e) p is = tt

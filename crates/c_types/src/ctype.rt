@@ -1,4 +1,5 @@
-ghost use Rattle.std.specs.Prelude.{◌≡◌, ◌≤◌, ◌↔◌, IfOk, IsTrue};
+ghost use Rattle.std.specs.Prelude.{◌≡◌, ◌≤◌, ◌↔◌, IfOk, IsTrue, nat_lt, if◌then◌else◌};
+ghost use Rattle.c_types.specs.Types.{is_flexible, layers_of, wrapped};
 
 use asm_core::{Boxed, Memory};
 use std::alloc::Global;
@@ -30,8 +31,6 @@ pub enum CType {
 }
 
 impl CType {
-    ghost use Rattle.c_types.specs.Types.{is_flexible, layers_of, wrapped};
-
     /// Whether it is an array without a length, as the last member of a struct may be (C11 6.7.2.1, 18).
     pub fn is_flexible(&self) -> bool
         ensures { result ≡ is_flexible self.now }
@@ -91,9 +90,6 @@ impl CType {
         })
     }
 }
-
-ghost use Rattle.std.specs.Prelude.{Some, None, nat_lt, if◌then◌else◌};
-ghost use Rattle.c_types.specs.Types.{layers_of};
 
 /// The type for one more layer around it, unless it has them all.
 fn boxed(alloc: Global, inner: CType) -> Result<Option<Boxed<CType>>, Memory>

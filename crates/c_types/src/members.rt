@@ -1,5 +1,5 @@
 ghost use Rattle.std.specs.Prelude.{◌≡◌, ℕ, ◌≤◌, All, IfOk, IfSome};
-ghost use Rattle.c_types.specs.Extents.{AllAligned, IsExtent};
+ghost use Rattle.c_types.specs.Extents.{AllAligned, IsAlignment, IsExtent};
 ghost use Rattle.c_types.specs.Layouts.{IsLaid, extents_of, greatest_alignment, greatest_size, last_extent, layout_of, layout_until, member_extent, struct_layout, union_layout};
 
 use crate::{CType, Extent, LARGEST_SIZE, Layout, Tags, extent_of};
@@ -13,6 +13,7 @@ pub fn layout(alloc: Global, members: &[CType], joined: bool, tags: &Tags, place
     requires { AllAligned tags.now }
     ensures is { IfOk result (λ l. l ≡ layout_of tags.now place joined members.now) }
     ensures laid { IfOk result (λ l. IfSome l (IsLaid joined (extents_of tags.now place members.now))) }
+    ensures sound { IfOk result (λ l. IfSome l (λ laid. IsAlignment laid.align)) }
 {
     let Some(extents) = extents(alloc, members, tags, place)? else {
         return Ok(None);
