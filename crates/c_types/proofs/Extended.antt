@@ -34,7 +34,7 @@ pub extents_of-drop : (tags : Tags) (place : ℕ) (ts : List CType) (k : ℕ) (d
 extents_of-drop tags place ts k d lt =
     ap (extents_of tags place) (drop_more ts k d lt)
     ∙ extents_of-cons tags place (get_or ts k d) (drop (k + 1) ts) (k + 1 == length ts)
-        (ap (λ n. n == 0) (length-drop (k + 1) ts) ∙ is_last (length ts) (k + 1) (omega arith))
+    (ap (λ n. n == 0) (length-drop (k + 1) ts) ∙ is_last (length ts) (k + 1) (omega arith))
 
 -- One more extent is known.
 pub after-more : (tags : Tags) (place : ℕ) (ts : List CType) (k : ℕ) (d : CType) (before : List Extent) (e : Extent) → k < length ts

@@ -25,12 +25,16 @@ pub greatest_size-le : (ms : List Extent) → All IsExtent ms → greatest_size 
 greatest_size-le ms all =
     let sizes : List ℕ = map (λ (m : Extent). m.size) ms in
     let small : All (λ n. n ≤ LARGEST_SIZE) sizes =
-        All-map (λ n. n ≤ LARGEST_SIZE) (λ (m : Extent). m.size) ms (All-weaker IsExtent (λ (m : Extent). m.size ≤ LARGEST_SIZE) (λ m e. e.0) ms all) in
+    All-map (λ n. n ≤ LARGEST_SIZE) (λ (m : Extent). m.size) ms (All-weaker IsExtent (λ (m : Extent). m.size ≤ LARGEST_SIZE) (λ m e. e.0) ms all) in
     fold-le 0 LARGEST_SIZE sizes (omega arith) small
 
 pub IsAlignment-greatest : (ms : List Extent) → All IsExtent ms → IsAlignment (greatest_alignment ms)
 IsAlignment-greatest ms all =
     let alignments : List ℕ = map (λ (m : Extent). m.align) ms in
     let small : All (λ n. n ≤ 4) alignments =
-        All-map (λ n. n ≤ 4) (λ (m : Extent). m.align) ms (All-weaker IsExtent (λ (m : Extent). m.align ≤ 4) (λ m e. e.1.1) ms all) in
+    All-map (λ n. n ≤ 4) (λ (m : Extent). m.align) ms (All-weaker IsExtent (λ (m : Extent). m.align ≤ 4) (λ m e. e.1.1) ms all) in
     (le-fold 1 alignments, fold-le 1 4 alignments (omega arith) small)
+
+pub least_alignment : (ms : List Extent) (n : ℕ) → 1 ≤ n → All (λ (m : Extent). m.align ≤ n) ms → greatest_alignment ms ≤ n
+least_alignment ms n le all =
+    fold-le 1 n (map (λ (m : Extent). m.align) ms) le (All-map (λ a. a ≤ n) (λ (m : Extent). m.align) ms all)

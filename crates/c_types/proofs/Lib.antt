@@ -3,3 +3,4 @@ pub mod Rounded
 pub mod Extended
 pub mod InOrder
 pub mod Laid
+pub mod Unlaid

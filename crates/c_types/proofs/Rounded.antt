@@ -23,4 +23,4 @@ next_multiple-mod n = alignment_cases (λ align. next_multiple_of n align % alig
 pub next_multiple-least : (n m align : ℕ) → IsAlignment align → n ≤ m → m % align ≡ 0 → next_multiple_of n align ≤ m
 next_multiple-least n m =
     alignment_cases (λ align. n ≤ m → m % align ≡ 0 → next_multiple_of n align ≤ m)
-        (λ le multiple. omega arith) (λ le multiple. omega arith) (λ le multiple. omega arith) (λ le multiple. omega arith)
+    (λ le multiple. omega arith) (λ le multiple. omega arith) (λ le multiple. omega arith) (λ le multiple. omega arith)

@@ -1,5 +1,5 @@
 -- Where the members of structs and unions lie: System V ABI, Intel386 supplement, "Aggregates and Unions".
-use Rattle.std.specs.Prelude.{◌≡◌, ℕ, ◌+◌, ◌%◌, ◌≤◌, max, ◌==◌, Bool, true, false, List, [], ◌∷◌, ◌++◌, length, map, fold, replicate, Option, Some, None, nat_le, All, AllPairs, if◌then◌else◌}
+use Rattle.std.specs.Prelude.{◌≡◌, ℕ, ◌+◌, ◌%◌, ◌≤◌, ◌<◌, max, ◌==◌, Bool, true, false, List, [], ◌∷◌, ◌++◌, length, map, fold, replicate, Option, Some, None, nat_le, All, AllPairs, if◌then◌else◌}
 use Rattle.std.specs.List.{zip}
 use Rattle.std.specs.Int.{next_multiple_of}
 use Rattle.std.specs.Bool.{OnTrue, OnFalse}
@@ -74,21 +74,44 @@ layout_of tags place joined members =
 
 -- ---- what holds of every layout
 
--- the members that lie at these offsets
+-- a member, at its offset
 abbrev pub Placed : Type 0
 Placed = ℕ × Extent
 
+abbrev pub end_of : Placed → ℕ
+end_of m = m.0 + m.1.size
+
+-- the least multiple of the alignment from there on
+pub record IsLeastMultiple (align from n : ℕ) : Type 0 where
+  pub multiple : n % align ≡ 0
+  pub past : from ≤ n
+  pub least : (other : ℕ) → other % align ≡ 0 → from ≤ other → n ≤ other
+
+-- Each member lies at the least multiple of its alignment past the one before.
+abbrev pub FollowOn : ℕ → List Placed → Type 0
+FollowOn end [] = Unit {0}
+FollowOn end (m ∷ ms) = IsLeastMultiple m.1.align end m.0 × FollowOn (end_of m) ms
+
 pub record IsLaidOut (joined : Bool) (members : List Extent) (l : Layout) : Type 0 where
+  -- the members of a struct, in order and apart
   pub each : length l.offsets ≡ length members
-  pub at_multiples : All (λ (m : Placed). m.0 % m.1.align ≡ 0) (zip l.offsets members)
-  pub apart : OnFalse joined (AllPairs (λ (m n : Placed). m.0 + m.1.size ≤ n.0) (zip l.offsets members))
+  pub follow_on : OnFalse joined (FollowOn 0 (zip l.offsets members))
+  pub apart : OnFalse joined (AllPairs (λ (m n : Placed). end_of m ≤ n.0) (zip l.offsets members))
+  -- those of a union, all at its beginning
   pub at_zero : OnTrue joined (All (λ o. o ≡ 0) l.offsets)
-  pub aligned : All (λ (m : Extent). m.align ≤ l.align) members
+  pub at_multiples : All (λ (m : Placed). m.0 % m.1.align ≡ 0) (zip l.offsets members)
+  -- The alignment is the greatest of theirs.
   pub alignment : IsAlignment l.align
+  pub aligned : All (λ (m : Extent). m.align ≤ l.align) members
+  pub least_alignment : (n : ℕ) → 1 ≤ n → All (λ (m : Extent). m.align ≤ n) members → l.align ≤ n
+  -- The size is the least multiple of the alignment that holds them all.
   pub multiple : l.size % l.align ≡ 0
-  pub holds_all : All (λ (m : Placed). m.0 + m.1.size ≤ l.size) (zip l.offsets members)
-  pub least : (n : ℕ) → n % l.align ≡ 0 → All (λ (m : Placed). m.0 + m.1.size ≤ n) (zip l.offsets members) → l.size ≤ n
+  pub holds_all : All (λ (m : Placed). end_of m ≤ l.size) (zip l.offsets members)
+  pub least_size : (n : ℕ) → n % l.align ≡ 0 → All (λ (m : Placed). end_of m ≤ n) (zip l.offsets members) → l.size ≤ n
 
 abbrev pub IsLaid : Bool → Option (List Extent) → Layout → Type 0
 IsLaid joined None l = ⊥
 IsLaid joined (Some ms) l = IsLaidOut joined ms l
+
+abbrev pub AllTooLarge : Bool → Option (List Extent) → Type 0
+AllTooLarge joined found = (l : Layout) → IsLaid joined found l → LARGEST_SIZE < l.size

@@ -43,7 +43,8 @@ impl CType {
         ensures { IsTrue result ↔ (layers_of self.now ≤ most) }
     {
         match self {
-            CType::Pointer(inner) | CType::Array(inner, _) | CType::Function(inner) => most > 0 && inner.get().is_within_layers(most - 1),
+            CType::Pointer(inner) | CType::Array(inner, _) | CType::Function(inner) => most > 0
+                && inner.get().is_within_layers(most - 1),
             _ => true,
         }
     }
@@ -79,10 +80,16 @@ impl CType {
         Ok(match self {
             CType::Void => CType::Void,
             CType::Bool => CType::Bool,
-            CType::Int { size, signed } => CType::Int { size: *size, signed: *signed },
+            CType::Int { size, signed } => CType::Int {
+                size: *size,
+                signed: *signed,
+            },
             CType::Float { size } => CType::Float { size: *size },
             CType::Pointer(to) => CType::Pointer(Boxed::new(alloc, to.get().copy(alloc)?)?),
-            CType::Array(element, length) => CType::Array(Boxed::new(alloc, element.get().copy(alloc)?)?, *length),
+            CType::Array(element, length) => CType::Array(
+                Boxed::new(alloc, element.get().copy(alloc)?)?,
+                *length,
+            ),
             CType::Function(gives) => CType::Function(Boxed::new(alloc, gives.get().copy(alloc)?)?),
             CType::Tagged(number) => CType::Tagged(*number),
             CType::Enumeration => CType::Enumeration,
@@ -95,5 +102,9 @@ impl CType {
 fn boxed(alloc: Global, inner: CType) -> Result<Option<Boxed<CType>>, Memory>
     ensures { IfOk result (λ b. b ≡ (if nat_lt (layers_of inner) MOST_LAYERS then Some inner else None)) }
 {
-    if inner.is_within_layers(MOST_LAYERS - 1) { Ok(Some(Boxed::new(alloc, inner)?)) } else { Ok(None) }
+    if inner.is_within_layers(MOST_LAYERS - 1) {
+        Ok(Some(Boxed::new(alloc, inner)?))
+    } else {
+        Ok(None)
+    }
 }

@@ -38,11 +38,17 @@ pub fn extent_of(t: &CType, tags: &Tags, place: u32) -> Option<Extent>
 {
     match t {
         CType::Bool => extent_within(1, 1),
-        CType::Int { size, .. } | CType::Float { size } => extent_within(u128::from(*size), natural_alignment(*size)),
+        CType::Int { size, .. } | CType::Float { size } => extent_within(
+            u128::from(*size),
+            natural_alignment(*size),
+        ),
         CType::Pointer(_) | CType::Enumeration => extent_within(4, 4),
         CType::Array(element, Some(length)) => {
             let element = extent_of(element.get(), tags, place)?;
-            extent_within(u128::from(element.size) * u128::from(*length), element.align)
+            extent_within(
+                u128::from(element.size) * u128::from(*length),
+                element.align,
+            )
         }
         CType::Tagged(number) => {
             let layout = tags.known(*number, place)?.layout.as_ref()?;
@@ -55,7 +61,14 @@ pub fn extent_of(t: &CType, tags: &Tags, place: u32) -> Option<Extent>
 fn extent_within(size: u128, align: u32) -> Option<Extent>
     ensures { result ≡ extent_within size align }
 {
-    if size <= u128::from(LARGEST_SIZE) { Some(Extent { size: size as u32, align }) } else { None }
+    if size <= u128::from(LARGEST_SIZE) {
+        Some(Extent {
+            size: size as u32,
+            align,
+        })
+    } else {
+        None
+    }
 }
 
 fn natural_alignment(size: u32) -> u32

@@ -1,6 +1,6 @@
-ghost use Rattle.std.specs.Prelude.{◌≡◌, ℕ, ◌≤◌, All, IfOk, IfSome};
+ghost use Rattle.std.specs.Prelude.{◌≡◌, ℕ, ◌≤◌, All, IfNone, IfOk, IfSome};
 ghost use Rattle.c_types.specs.Extents.{AllAligned, IsAlignment, IsExtent};
-ghost use Rattle.c_types.specs.Layouts.{IsLaid, extents_of, greatest_alignment, greatest_size, last_extent, layout_of, layout_until, member_extent, struct_layout, union_layout};
+ghost use Rattle.c_types.specs.Layouts.{AllTooLarge, IsLaid, extents_of, greatest_alignment, greatest_size, last_extent, layout_of, layout_until, member_extent, struct_layout, union_layout};
 
 use crate::{CType, Extent, LARGEST_SIZE, Layout, Tags, extent_of};
 use asm_core::{Items, Memory};
@@ -9,16 +9,30 @@ use std::alloc::Global;
 /// Where the members of a struct lie, or of a union where `joined` holds, at the offset `place` of the file.
 /// An array without a length may be the last member.
 /// `None` where a member has no size at the place, or a size on the way passes `LARGEST_SIZE`.
-pub fn layout(alloc: Global, members: &[CType], joined: bool, tags: &Tags, place: u32) -> Result<Option<Layout>, Memory>
+pub fn layout(
+    alloc: Global,
+    members: &[CType],
+    joined: bool,
+    tags: &Tags,
+    place: u32,
+) -> Result<Option<Layout>, Memory>
     requires { AllAligned tags.now }
     ensures is { IfOk result (λ l. l ≡ layout_of tags.now place joined members.now) }
     ensures laid { IfOk result (λ l. IfSome l (IsLaid joined (extents_of tags.now place members.now))) }
+    ensures within { IfOk result (λ l. IfSome l (λ laid. laid.size ≤ LARGEST_SIZE)) }
     ensures sound { IfOk result (λ l. IfSome l (λ laid. IsAlignment laid.align)) }
+
+    // No layout by the rules is small enough where there is none.
+    ensures none { IfOk result (λ l. IfNone l (AllTooLarge joined (extents_of tags.now place members.now))) }
 {
     let Some(extents) = extents(alloc, members, tags, place)? else {
         return Ok(None);
     };
-    if joined { union_layout(alloc, extents.as_slice()) } else { struct_layout(alloc, extents.as_slice()) }
+    if joined {
+        union_layout(alloc, extents.as_slice())
+    } else {
+        struct_layout(alloc, extents.as_slice())
+    }
 }
 
 /// The size and the alignment of a type as the last member of a struct or union: an array without a length takes no bytes there.
@@ -29,7 +43,10 @@ pub fn last_extent_of(t: &CType, tags: &Tags, place: u32) -> Option<Extent>
     match t {
         CType::Array(element, None) => {
             let element = extent_of(element.get(), tags, place)?;
-            Some(Extent { size: 0, align: element.align })
+            Some(Extent {
+                size: 0,
+                align: element.align,
+            })
         }
         _ => extent_of(t, tags, place),
     }
@@ -39,10 +56,19 @@ fn member_extent(t: &CType, is_last: bool, tags: &Tags, place: u32) -> Option<Ex
     ensures is { result ≡ member_extent tags.now place is_last t.now }
     ensures sound { AllAligned tags.now → IfSome result IsExtent }
 {
-    if is_last { last_extent_of(t, tags, place) } else { extent_of(t, tags, place) }
+    if is_last {
+        last_extent_of(t, tags, place)
+    } else {
+        extent_of(t, tags, place)
+    }
 }
 
-fn extents(alloc: Global, members: &[CType], tags: &Tags, place: u32) -> Result<Option<Items<Extent>>, Memory>
+fn extents(
+    alloc: Global,
+    members: &[CType],
+    tags: &Tags,
+    place: u32,
+) -> Result<Option<Items<Extent>>, Memory>
     requires { AllAligned tags.now }
     ensures is { IfOk result (λ es. es ≡ extents_of tags.now place members.now) }
     ensures sound { IfOk result (λ es. IfSome es (All IsExtent)) }
@@ -90,7 +116,15 @@ fn layout_until(offsets: Items<u32>, end: u32, members: &[Extent]) -> Option<Lay
 {
     let align = greatest_alignment(members);
     let size = end.next_multiple_of(align);
-    if size <= LARGEST_SIZE { Some(Layout { offsets, size, align }) } else { None }
+    if size <= LARGEST_SIZE {
+        Some(Layout {
+            offsets,
+            size,
+            align,
+        })
+    } else {
+        None
+    }
 }
 
 fn greatest_size(members: &[Extent]) -> u32

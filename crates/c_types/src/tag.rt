@@ -46,6 +46,10 @@ impl Tags {
         ensures { option_copied result ≡ known_tag self.now number place }
     {
         let tag = self.list.get(number as usize)?;
-        if tag.known_from < NO_BODY && tag.known_from <= place { Some(tag) } else { None }
+        if tag.known_from < NO_BODY && tag.known_from <= place {
+            Some(tag)
+        } else {
+            None
+        }
     }
 }

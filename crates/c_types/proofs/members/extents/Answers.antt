@@ -17,9 +17,9 @@ loop-k-preserved c =
     let before = c.loop-k.extents in
     let known : member_extent tags c.args.place (k + 1 == length members) member ≡ Some extent = sym c.in-Some.ensures.is in
     let more = after-more tags c.args.place members k member before extent c.loop-k-test.true
-        (ap (member_extent tags c.args.place (k + 1 == length members)) (sym c.index-members-k.is) ∙ known) in
+    (ap (member_extent tags c.args.place (k + 1 == length members)) (sym c.index-members-k.is) ∙ known) in
     record {
-        same = ap (λ (es : List Extent). after es (extents_of tags c.args.place (drop (k + 1) members))) c.in_ok-push.ensures.ok ∙ more ∙ c.loop-k.invariant.same;
-        sound = All-same IsExtent c.push.new.self (before ++ extent ∷ []) c.in_ok-push.ensures.ok
-            (All-push IsExtent before extent c.loop-k.invariant.sound (c.in-Some.ensures.sound c.requires))
+      same = ap (λ (es : List Extent). after es (extents_of tags c.args.place (drop (k + 1) members))) c.in_ok-push.ensures.ok ∙ more ∙ c.loop-k.invariant.same;
+      sound = All-same IsExtent c.push.new.self (before ++ extent ∷ []) c.in_ok-push.ensures.ok
+          (All-push IsExtent before extent c.loop-k.invariant.sound (c.in-Some.ensures.sound c.requires));
     }

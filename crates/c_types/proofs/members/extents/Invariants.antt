@@ -8,5 +8,5 @@ use Rattle.c_types.proofs.members.extents.Given as goal
 abbrev pub invariant-loop-k : goal.invariant-loop-k
 invariant-loop-k l = record {
   same : after l.extents (extents_of l.tags l.place (drop l.k l.members)) ≡ extents_of l.tags l.place l.members;
-  sound : All IsExtent l.extents
+  sound : All IsExtent l.extents;
 }

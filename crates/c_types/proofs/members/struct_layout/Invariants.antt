@@ -8,5 +8,5 @@ abbrev pub invariant-loop-member : goal.invariant-loop-member
 invariant-loop-member l = record {
   offsets : l.offsets ++ offsets_from l.end (drop l.member-index l.members) ≡ offsets_from 0 l.members;
   end : end_from l.end (drop l.member-index l.members) ≡ end_from 0 l.members;
-  small : l.end ≤ LARGEST_SIZE
+  small : l.end ≤ LARGEST_SIZE;
 }

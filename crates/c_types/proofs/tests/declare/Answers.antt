@@ -16,4 +16,4 @@ IsTagAligned tag = ForSome tag.layout (λ (l : Layout). IsAlignment l.align)
 pub returns : goal.returns
 returns c =
     All-same IsTagAligned c.push.new.self _ c.in_ok-push.ensures.ok
-        (All-push IsTagAligned c.args.tags.now.list _ c.requires (for_some (λ (l : Layout). IsAlignment l.align) c.in_ok-layout.layout c.in_ok-layout.ensures.sound))
+    (All-push IsTagAligned c.args.tags.now.list _ c.requires (for_some (λ (l : Layout). IsAlignment l.align) c.in_ok-layout.layout c.in_ok-layout.ensures.sound))
