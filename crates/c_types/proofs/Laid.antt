@@ -38,9 +38,9 @@ follow_on end (m ∷ ms) sound =
     let alignment : IsAlignment m.align = (All-head IsExtent m ms sound).1 in
     let at : ℕ = next_multiple_of end m.align in
     let first : IsLeastMultiple m.align end at = record {
-        multiple = next_multiple-mod end m.align alignment;
-        past = le-next_multiple end m.align;
-        least = λ n multiple past. next_multiple-least end n m.align alignment past multiple
+      multiple = next_multiple-mod end m.align alignment;
+      past = le-next_multiple end m.align;
+      least = λ n multiple past. next_multiple-least end n m.align alignment past multiple;
     } in
     (first, follow_on (at + m.size) ms (All-tail IsExtent m ms sound))
 

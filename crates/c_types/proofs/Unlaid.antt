@@ -30,8 +30,8 @@ end_from-held end n (o ∷ os) (m ∷ ms) sound each follow held le =
     let is : o ≡ at = least_is m.align end o (All-head IsExtent m ms sound).1 follow.0 in
     let here : o + m.size ≤ n = All-head (λ (m : Placed). end_of m ≤ n) (o, m) (zip os ms) held in
     end_from-held (at + m.size) n os ms (All-tail IsExtent m ms sound) (omega arith)
-        (subst (λ (p : ℕ). FollowOn (p + m.size) (zip os ms)) is follow.1)
-        (All-tail (λ (m : Placed). end_of m ≤ n) (o, m) (zip os ms) held) (omega arith)
+    (subst (λ (p : ℕ). FollowOn (p + m.size) (zip os ms)) is follow.1)
+    (All-tail (λ (m : Placed). end_of m ≤ n) (o, m) (zip os ms) held) (omega arith)
 
 sizes_held : (n : ℕ) (os : List ℕ) (ms : List Extent) → length os ≡ length ms
     → All (λ (m : Placed). end_of m ≤ n) (zip os ms) → All (λ (m : Extent). m.size ≤ n) ms
@@ -40,12 +40,12 @@ sizes_held n [] (m ∷ ms) each held = absurd (omega arith)
 sizes_held n (o ∷ os) (m ∷ ms) each held =
     let here : o + m.size ≤ n = All-head (λ (m : Placed). end_of m ≤ n) (o, m) (zip os ms) held in
     All-cons (λ (m : Extent). m.size ≤ n) m ms (omega arith)
-        (sizes_held n os ms (omega arith) (All-tail (λ (m : Placed). end_of m ≤ n) (o, m) (zip os ms) held))
+    (sizes_held n os ms (omega arith) (All-tail (λ (m : Placed). end_of m ≤ n) (o, m) (zip os ms) held))
 
 same_alignment : (joined : Bool) (ms : List Extent) (l : Layout) → All IsExtent ms → IsLaidOut joined ms l → l.align ≡ greatest_alignment ms
 same_alignment joined ms l sound laid =
     let above : l.align ≤ greatest_alignment ms =
-        laid.least_alignment (greatest_alignment ms) (IsAlignment-greatest ms sound).0 (all-le-fold (λ (m : Extent). m.align) 1 ms) in
+    laid.least_alignment (greatest_alignment ms) (IsAlignment-greatest ms sound).0 (all-le-fold (λ (m : Extent). m.align) 1 ms) in
     let below : greatest_alignment ms ≤ l.align = least_alignment ms l.align laid.alignment.0 laid.aligned in
     omega arith
 
@@ -95,12 +95,12 @@ pub too_large : (joined : Bool) (found : Option (List Extent)) → IfSome found 
 too_large joined None sound = λ l laid. absurd laid
 too_large true (Some ms) sound =
     IfNone-layout_until _ _ (greatest_size ms) ms (λ large l laid.
-        let sizes = sizes_held l.size l.offsets ms laid.each laid.holds_all in
-        let end : greatest_size ms ≤ l.size = fold-le 0 l.size (map (λ (m : Extent). m.size) ms) (omega arith) (All-map (λ s. s ≤ l.size) (λ (m : Extent). m.size) ms sizes) in
-        let held = size_held true ms l (greatest_size ms) sound laid end in
-        omega arith)
+    let sizes = sizes_held l.size l.offsets ms laid.each laid.holds_all in
+    let end : greatest_size ms ≤ l.size = fold-le 0 l.size (map (λ (m : Extent). m.size) ms) (omega arith) (All-map (λ s. s ≤ l.size) (λ (m : Extent). m.size) ms sizes) in
+    let held = size_held true ms l (greatest_size ms) sound laid end in
+    omega arith)
 too_large false (Some ms) sound =
     IfNone-layout_until _ _ (end_from 0 ms) ms (λ large l laid.
-        let end : end_from 0 ms ≤ l.size = end_from-held 0 l.size l.offsets ms sound laid.each laid.follow_on laid.holds_all (omega arith) in
-        let held = size_held false ms l (end_from 0 ms) sound laid end in
-        omega arith)
+    let end : end_from 0 ms ≤ l.size = end_from-held 0 l.size l.offsets ms sound laid.each laid.follow_on laid.holds_all (omega arith) in
+    let held = size_held false ms l (end_from 0 ms) sound laid end in
+    omega arith)

@@ -10,7 +10,7 @@ use Rattle.c_types.specs.declared.extent.Extent.{Extent}
 use Rattle.c_types.specs.declared.extent.TheConstants.{LARGEST_SIZE}
 use Rattle.c_types.specs.Types.{known_tag}
 
--- A number lies at a multiple of its size, but of 4 at most.
+-- A number of 1 or 2 bytes lies at a multiple of its size, a longer one at a multiple of 4.
 abbrev pub natural_alignment : ℕ → ℕ
 natural_alignment size = if size == 1 then 1 else if size == 2 then 2 else 4
 

@@ -7,7 +7,7 @@ use asm_core::{Items, Memory};
 use std::alloc::Global;
 
 /// Where the members of a struct lie, or of a union where `joined` holds, at the offset `place` of the file.
-/// An array without a length may be the last member.
+/// An array without a length may be the last member; a last member whose length is written and not known is no such array, and its struct has no layout.
 /// `None` where a member has no size at the place, or a size on the way passes `LARGEST_SIZE`.
 pub fn layout(
     alloc: Global,

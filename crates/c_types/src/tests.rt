@@ -4,8 +4,8 @@ ghost use Rattle.std.specs.Prelude.{OnOk};
 ghost use Rattle.c_types.specs.Extents.{AllAligned};
 
 use super::*;
-use rows::{Base, Member, NAMED, Named, ROWS, Row};
 use asm_core::{Items, Memory};
+use rows::{Base, Member, NAMED, Named, ROWS, Row};
 use std::alloc::Global;
 
 /// Where the bodies of all rows have ended.

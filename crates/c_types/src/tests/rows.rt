@@ -19,15 +19,25 @@ pub enum Base {
 pub struct Member(pub Base, pub &'static [Option<u64>]);
 
 const VOID: Member = Member(Base::Void, &[]);
+
 const BOOL: Member = Member(Base::Bool, &[]);
+
 const CHAR: Member = Member(Base::Int(1), &[]);
+
 const SHORT: Member = Member(Base::Int(2), &[]);
+
 const INT: Member = Member(Base::Int(4), &[]);
+
 const LONG_LONG: Member = Member(Base::Int(8), &[]);
+
 const FLOAT: Member = Member(Base::Float(4), &[]);
+
 const DOUBLE: Member = Member(Base::Float(8), &[]);
+
 const LONG_DOUBLE: Member = Member(Base::Float(12), &[]);
+
 const POINTER: Member = Member(Base::Pointer, &[]);
+
 const ENUM: Member = Member(Base::Enumeration, &[]);
 
 /// A struct or union as C declares it, its members, and the offsets, the size and the alignment.
@@ -279,11 +289,7 @@ pub static ROWS: [Row; 49] = [
 ];
 
 /// A type's name, the type, and its size and alignment.
-pub struct Named(
-    pub &'static str,
-    pub Member,
-    pub Option<(u32, u32)>,
-);
+pub struct Named(pub &'static str, pub Member, pub Option<(u32, u32)>);
 
 pub static NAMED: [Named; 26] = [
     Named("_Bool", BOOL, Some((1, 1))),

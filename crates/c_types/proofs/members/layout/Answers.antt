@@ -12,7 +12,7 @@ pub returns-then-joined-clause-laid : goal.returns-then-joined-clause-laid
 returns-then-joined-clause-laid c =
     let found : Option (List Extent) = extents_of c.args.tags.now c.args.place c.args.members.now in
     let sound : IfSome found (All IsExtent) =
-        subst (λ (o : Option (List Extent)). IfSome o (All IsExtent)) c.in_ok-extents.ensures.is c.in_ok-extents.ensures.sound in
+    subst (λ (o : Option (List Extent)). IfSome o (All IsExtent)) c.in_ok-extents.ensures.is c.in_ok-extents.ensures.sound in
     let is : IfOk c.union_layout.result (λ l. l ≡ layout_of c.args.tags.now c.args.place c.args.joined c.args.members.now) = search rules in
     IfOk-along (λ (l : Option Layout). IfSome l (IsLaid c.args.joined found)) _ c.union_layout.result (IsLaid-layout c.args.joined found sound) is
 
@@ -26,7 +26,7 @@ pub returns-then-joined-clause-sound : goal.returns-then-joined-clause-sound
 returns-then-joined-clause-sound c =
     let found : Option (List Extent) = extents_of c.args.tags.now c.args.place c.args.members.now in
     let sound : IfSome found (All IsExtent) =
-        subst (λ (o : Option (List Extent)). IfSome o (All IsExtent)) c.in_ok-extents.ensures.is c.in_ok-extents.ensures.sound in
+    subst (λ (o : Option (List Extent)). IfSome o (All IsExtent)) c.in_ok-extents.ensures.is c.in_ok-extents.ensures.sound in
     let is : IfOk c.union_layout.result (λ l. l ≡ layout_of c.args.tags.now c.args.place c.args.joined c.args.members.now) = search rules in
     IfOk-along (λ (l : Option Layout). IfSome l (λ (laid : Layout). IsAlignment laid.align)) _ c.union_layout.result (IsAlignment-layout c.args.joined found sound) is
 
@@ -34,7 +34,7 @@ pub returns-then-joined-clause-none : goal.returns-then-joined-clause-none
 returns-then-joined-clause-none c =
     let found : Option (List Extent) = extents_of c.args.tags.now c.args.place c.args.members.now in
     let sound : IfSome found (All IsExtent) =
-        subst (λ (o : Option (List Extent)). IfSome o (All IsExtent)) c.in_ok-extents.ensures.is c.in_ok-extents.ensures.sound in
+    subst (λ (o : Option (List Extent)). IfSome o (All IsExtent)) c.in_ok-extents.ensures.is c.in_ok-extents.ensures.sound in
     let is : IfOk c.union_layout.result (λ l. l ≡ layout_of c.args.tags.now c.args.place c.args.joined c.args.members.now) = search rules in
     IfOk-along (λ (l : Option Layout). IfNone l (AllTooLarge c.args.joined found)) _ c.union_layout.result (too_large c.args.joined found sound) is
 
@@ -42,7 +42,7 @@ pub returns-clause-laid : goal.returns-clause-laid
 returns-clause-laid c =
     let found : Option (List Extent) = extents_of c.args.tags.now c.args.place c.args.members.now in
     let sound : IfSome found (All IsExtent) =
-        subst (λ (o : Option (List Extent)). IfSome o (All IsExtent)) c.in_ok-extents.ensures.is c.in_ok-extents.ensures.sound in
+    subst (λ (o : Option (List Extent)). IfSome o (All IsExtent)) c.in_ok-extents.ensures.is c.in_ok-extents.ensures.sound in
     let is : IfOk c.struct_layout.result (λ l. l ≡ layout_of c.args.tags.now c.args.place c.args.joined c.args.members.now) = search rules in
     IfOk-along (λ (l : Option Layout). IfSome l (IsLaid c.args.joined found)) _ c.struct_layout.result (IsLaid-layout c.args.joined found sound) is
 
@@ -56,7 +56,7 @@ pub returns-clause-sound : goal.returns-clause-sound
 returns-clause-sound c =
     let found : Option (List Extent) = extents_of c.args.tags.now c.args.place c.args.members.now in
     let sound : IfSome found (All IsExtent) =
-        subst (λ (o : Option (List Extent)). IfSome o (All IsExtent)) c.in_ok-extents.ensures.is c.in_ok-extents.ensures.sound in
+    subst (λ (o : Option (List Extent)). IfSome o (All IsExtent)) c.in_ok-extents.ensures.is c.in_ok-extents.ensures.sound in
     let is : IfOk c.struct_layout.result (λ l. l ≡ layout_of c.args.tags.now c.args.place c.args.joined c.args.members.now) = search rules in
     IfOk-along (λ (l : Option Layout). IfSome l (λ (laid : Layout). IsAlignment laid.align)) _ c.struct_layout.result (IsAlignment-layout c.args.joined found sound) is
 
@@ -64,6 +64,6 @@ pub returns-clause-none : goal.returns-clause-none
 returns-clause-none c =
     let found : Option (List Extent) = extents_of c.args.tags.now c.args.place c.args.members.now in
     let sound : IfSome found (All IsExtent) =
-        subst (λ (o : Option (List Extent)). IfSome o (All IsExtent)) c.in_ok-extents.ensures.is c.in_ok-extents.ensures.sound in
+    subst (λ (o : Option (List Extent)). IfSome o (All IsExtent)) c.in_ok-extents.ensures.is c.in_ok-extents.ensures.sound in
     let is : IfOk c.struct_layout.result (λ l. l ≡ layout_of c.args.tags.now c.args.place c.args.joined c.args.members.now) = search rules in
     IfOk-along (λ (l : Option Layout). IfNone l (AllTooLarge c.args.joined found)) _ c.struct_layout.result (too_large c.args.joined found sound) is
