@@ -1,5 +1,5 @@
 -- Every layout by the rules is at least as large as the one that the definition gives, so where there is none, each would be too large.
-use Rattle.std.proofs.Common.{◌≡◌, ℕ, suc, ◌+◌, ◌%◌, ◌≤◌, ◌<◌, Bool, true, false, List, [], ◌∷◌, length, map, Option, Some, None, nat_le, All, IfSome, IfNone, refl, sym, ap, subst, arith}
+use Rattle.std.proofs.Common.{◌≡◌, ℕ, ◌+◌, ◌%◌, ◌≤◌, ◌<◌, Bool, true, false, List, [], ◌∷◌, length, map, Option, Some, None, nat_le, All, IfSome, IfNone, refl, subst, arith}
 use Rattle.std.specs.Prelude.{if◌then◌else◌}
 use Rattle.std.specs.List.{zip}
 use Rattle.std.specs.Int.{next_multiple_of}
@@ -10,7 +10,7 @@ use Rattle.c_types.specs.declared.extent.Extent.{Extent}
 use Rattle.c_types.specs.declared.extent.TheConstants.{LARGEST_SIZE}
 use Rattle.c_types.specs.declared.tag.Layout.{Layout}
 use Rattle.c_types.specs.Extents.{IsAlignment, IsExtent}
-use Rattle.c_types.specs.Layouts.{Placed, end_of, AllTooLarge, IsLeastMultiple, FollowOn, IsLaid, IsLaidOut, end_from, layout_until, layout_within, greatest_alignment, greatest_size, struct_layout, union_layout}
+use Rattle.c_types.specs.Layouts.{Placed, end_of, AllTooLarge, IsLeastMultiple, FollowOn, IsLaidOut, end_from, layout_until, layout_within, greatest_alignment, greatest_size, struct_layout, union_layout}
 use Rattle.c_types.proofs.Greatest.{all-le-fold, fold-le, IsAlignment-greatest, least_alignment}
 use Rattle.c_types.proofs.Rounded.{le-next_multiple, next_multiple-mod, next_multiple-least}
 

@@ -1,5 +1,5 @@
 -- Where the members of structs and unions lie: System V ABI, Intel386 supplement, "Aggregates and Unions".
-use Rattle.std.specs.Prelude.{◌≡◌, ℕ, ◌+◌, ◌%◌, ◌≤◌, ◌<◌, max, ◌==◌, Bool, true, false, List, [], ◌∷◌, ◌++◌, length, map, fold, replicate, Option, Some, None, nat_le, All, AllPairs, if◌then◌else◌}
+use Rattle.std.specs.Prelude.{◌≡◌, ℕ, ◌+◌, ◌%◌, ◌≤◌, ◌<◌, max, ◌==◌, Bool, List, [], ◌∷◌, length, map, fold, replicate, Option, Some, None, nat_le, All, AllPairs, if◌then◌else◌}
 use Rattle.std.specs.List.{zip}
 use Rattle.std.specs.Int.{next_multiple_of}
 use Rattle.std.specs.Bool.{OnTrue, OnFalse}

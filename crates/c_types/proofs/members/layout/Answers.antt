@@ -1,4 +1,4 @@
-use Rattle.std.proofs.Common.{◌≡◌, ◌≤◌, All, Option, List, IfNone, IfOk, IfSome, Some, rules, subst}
+use Rattle.std.proofs.Common.{◌≡◌, ◌≤◌, All, Option, List, IfNone, IfOk, IfSome, rules, subst}
 use Rattle.c_types.specs.declared.extent.Extent.{Extent}
 use Rattle.c_types.specs.declared.tag.Layout.{Layout}
 use Rattle.c_types.specs.declared.extent.TheConstants.{LARGEST_SIZE}

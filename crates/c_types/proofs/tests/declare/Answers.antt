@@ -1,4 +1,4 @@
-use Rattle.std.proofs.Common.{◌≡◌, Option, Some, None, IfSome, subst, ap}
+use Rattle.std.proofs.Common.{◌≡◌, Option, Some, None, IfSome, subst}
 use Rattle.std.specs.Option.{ForSome}
 use Rattle.std.proofs.lemmas.List.Elements.{All-push, All-same}
 use Rattle.c_types.specs.declared.tag.Tag.{Tag}
