@@ -1,0 +1,81 @@
+#!/usr/bin/env python3
+"""Asks gcc -m32 for the sizes, alignments and offsets that the tests of c_types have.
+
+It reads the tables of crates/c_types/src/tests/rows.rt. A row with values has to hold by static
+assertions, and gcc has to refuse a row without. Nothing is linked, so no 32-bit libc is needed.
+Status 0 where all agree or gcc has no -m32, else 1.
+"""
+import pathlib
+import re
+import subprocess
+import sys
+
+TABLES = pathlib.Path(__file__).resolve().parent.parent / "crates/c_types/src/tests/rows.rt"
+ROW = re.compile(r'\n    (Row|Named)\(\s*"([^"]+)",(.*?)(?=\n    (?:Row|Named|//)|\n\];)', re.S)
+LAYOUT = re.compile(r"Some\(\(&\[([0-9, ]*)\],\s*(\d+),\s*(\d+)\)\)")
+EXTENT = re.compile(r"Some\(\((\d+),\s*(\d+)\)\)")
+
+
+def gcc(source, *options):
+    command = ["gcc", "-m32", "-std=gnu11", "-x", "c", "-", *options]
+    return subprocess.run(command, input=source, text=True, capture_output=True)
+
+
+def accepts(source):
+    return gcc(source, "-fsyntax-only").returncode == 0
+
+
+def asserted(conditions):
+    return "".join(f'_Static_assert({c}, "{c}");\n' for c in conditions)
+
+
+def layout_conditions(text, values):
+    tag = " ".join(text.split()[:2])
+    offsets = [int(n) for n in re.findall(r"\d+", values[1])]
+    members = [f"__builtin_offsetof({tag}, {chr(ord('a') + k)}) == {n}u" for k, n in enumerate(offsets)]
+    return members + [f"sizeof({tag}) == {values[2]}u", f"_Alignof({tag}) == {values[3]}"]
+
+
+def extent_conditions(text, values):
+    beside = f"struct {{ char before; __typeof__({text}) at; }}"
+    if int(values[1]) > 2147483640:
+        return [f"sizeof({text}) == {values[1]}u"]
+    return [f"sizeof({text}) == {values[1]}u", f"__builtin_offsetof({beside}, at) == {values[2]}"]
+
+
+def main():
+    try:
+        works = gcc("int x;\n", "-S", "-o", "/dev/null").returncode == 0
+    except FileNotFoundError:
+        works = False
+    if not works:
+        print("skipped: gcc -m32 does not work here")
+        return 0
+    known = "enum E { E0 };\n"
+    compared = refused = 0
+    failures = []
+    for kind, text, rest in ROW.findall(TABLES.read_text()):
+        values = (LAYOUT if kind == "Row" else EXTENT).search(rest)
+        declaration = f"{text};\n" if kind == "Row" else f"extern char sized[1 + 0 * sizeof({text})];\n"
+        taken = accepts(known + declaration)
+        if values is None:
+            refused += 1
+            if taken:
+                failures.append(f"gcc takes {text}")
+            continue
+        if not taken:
+            print(f"not compared, since this gcc refuses it: {text}")
+            continue
+        compared += 1
+        conditions = layout_conditions if kind == "Row" else extent_conditions
+        answer = gcc(known + (declaration if kind == "Row" else "") + asserted(conditions(text, values)), "-fsyntax-only")
+        if answer.returncode != 0:
+            failures.append(f"{text}\n{answer.stderr}")
+        if kind == "Row":
+            known += declaration
+    print(f"{compared} compared, {refused} without a size, {len(failures)} failed")
+    print("\n".join(failures), end="")
+    return 1 if failures or compared < 50 else 0
+
+
+sys.exit(main())
