@@ -33,18 +33,9 @@ pub fn run_with(
 ) -> Result<Ending, Memory> {
     let mut files = MemFiles::new(alloc, failing.files)?;
     files.put("a.c", bytes)?;
-    run_over(alloc, words, &mut files, failing.sink)
-}
-
-fn run_over(
-    alloc: Global,
-    words: &[&str],
-    files: &mut MemFiles,
-    failing: &[u64],
-) -> Result<Ending, Memory> {
-    let mut out = MemSink::new(alloc, failing)?;
+    let mut out = MemSink::new(alloc, failing.sink)?;
     let owned = owned_words(alloc, words)?;
-    let status = run(alloc, owned.as_slice(), files, &mut out);
+    let status = run(alloc, owned.as_slice(), &mut files, &mut out);
     Ok(Ending {
         code: status.code(),
         printed: out.bytes().to_vec(alloc)?,
