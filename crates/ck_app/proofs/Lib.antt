@@ -1,4 +1,5 @@
 mod Counting
 mod FrameLaws
-mod PrintLaws
+mod OutsideLaws
 mod PageLaws
+mod PrintLaws

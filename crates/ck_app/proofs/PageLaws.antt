@@ -8,7 +8,8 @@ use Rattle.asm_core.specs.declared.statement.Statement.{Statement}
 use Rattle.ck_ports.specs.Outside.{Outside}
 use Rattle.ck_ports.specs.Written.{Written}
 use Rattle.ck_ports.specs.declared.transfer.TheConstants.{MAX_FILE_BYTES}
-use Rattle.ck_app.specs.Answer.{Answer, answer, judged_answer, statement_answer, tokens_answer, file_answer, read_answer, command_answer, findings_in}
+use Rattle.ck_app.specs.Answer.{Answer, answer, status_with, judged_answer, first_answer, first_or, lines_answer, status_outside, outside_lines, statements_answer, tokens_answer, file_answer, read_answer, command_answer, findings_in}
+use Rattle.asm_statement.specs.Statements.{statements_of}
 use Rattle.ck_app.specs.FirstFile.{statement_of}
 use Rattle.ck_app.specs.Judge.{IsPage}
 use Rattle.ck_app.specs.Report.{too_large_line}
@@ -25,18 +26,31 @@ is_of_file Status.WriteFault = false
 is_of_file Status.Memory = false
 is_of_file status = true
 
-of_judged : (name text : List ℕ) (offset : ℕ) (o : Option (List Finding)) → is_of_file (judged_answer name text offset o).status ≡ true
-of_judged name text offset None = refl
-of_judged name text offset (Some []) = refl
-of_judged name text offset (Some (f ∷ fs)) = refl
+of_findings : (fs : List Finding) → is_of_file (status_with fs) ≡ true
+of_findings [] = refl
+of_findings (f ∷ fs) = refl
 
-of_statement : (name text : List ℕ) (o : Option Statement) → is_of_file (statement_answer name text o).status ≡ true
-of_statement name text None = refl
-of_statement name text (Some s) = of_judged name text s.span.from (findings_in s)
+of_lines : (name : List ℕ) (status : Status) (o : Option (List ℕ)) → is_of_file status ≡ true → is_of_file (lines_answer name status o).status ≡ true
+of_lines name status None h = refl
+of_lines name status (Some lines) h = h
+
+of_outside : (ss : List Statement) → is_of_file (status_outside ss) ≡ true
+of_outside [] = refl
+of_outside (s ∷ ss) = refl
+
+of_first : (name text : List ℕ) (offset : ℕ) (o : Option (List Finding)) (other : Answer) → is_of_file other.status ≡ true → is_of_file (first_or (judged_answer name text offset o) other).status ≡ true
+of_first name text offset None other h = h
+of_first name text offset (Some fs) other h = of_findings fs
+
+of_statement : (name text : List ℕ) (o : Option Statement) (other : Answer) → is_of_file other.status ≡ true → is_of_file (first_or (first_answer name text o) other).status ≡ true
+of_statement name text None other h = h
+of_statement name text (Some s) other h = of_first name text s.span.from (findings_in s) other h
 
 of_tokens : (name text : List ℕ) (r : Result (List Token) TokenEnd) → is_of_file (tokens_answer name text r).status ≡ true
 of_tokens name text (Err end) = refl
-of_tokens name text (Ok ts) = of_statement name text (statement_of text)
+of_tokens name text (Ok ts) =
+    let ss = statements_of text ts in
+    of_statement name text (statement_of text) (statements_answer name text ss) (of_lines name (status_outside ss) (outside_lines name text ss) (of_outside ss))
 
 of_either : (b : Bool) (x y : Answer) → is_of_file x.status ≡ true → is_of_file y.status ≡ true → is_of_file (if b then x else y).status ≡ true
 of_either true x y h k = h
@@ -58,6 +72,7 @@ module _ (name bytes : List ℕ) (old new : Outside) (there : IsTrue old.tells �
   page_by_status Status.Done text is_status is_text of = told_text Status.Done text is_status is_text
   page_by_status Status.Rejected text is_status is_text of = told_text Status.Rejected text is_status is_text
   page_by_status Status.BadText text is_status is_text of = told_text Status.BadText text is_status is_text
+  page_by_status Status.Undecided text is_status is_text of = told_text Status.Undecided text is_status is_text
   page_by_status Status.TooLarge text is_status is_text of = told_text Status.TooLarge text is_status is_text
   page_by_status Status.NotYet text is_status is_text of = told_text Status.NotYet text is_status is_text
 

@@ -34,6 +34,7 @@ module _ (name : List ℕ) (old new : Outside) (before after : Written) (text : 
   whole_page Status.Done page told w = gives _ Status.Done text before after (page told) w
   whole_page Status.Rejected page told w = gives _ Status.Rejected text before after (page told) w
   whole_page Status.BadText page told w = gives _ Status.BadText text before after (page told) w
+  whole_page Status.Undecided page told w = gives _ Status.Undecided text before after (page told) w
   whole_page Status.TooLarge page told w = gives _ Status.TooLarge text before after (page told) w
   whole_page Status.NotYet page told w = gives _ Status.NotYet text before after (page told) w
 
@@ -46,6 +47,7 @@ module _ (name : List ℕ) (old new : Outside) (before after : Written) (text : 
   part_of_page Status.Done page told w = inl (gives_part _ Status.Done text before after (page told) w)
   part_of_page Status.Rejected page told w = inl (gives_part _ Status.Rejected text before after (page told) w)
   part_of_page Status.BadText page told w = inl (gives_part _ Status.BadText text before after (page told) w)
+  part_of_page Status.Undecided page told w = inl (gives_part _ Status.Undecided text before after (page told) w)
   part_of_page Status.TooLarge page told w = inl (gives_part _ Status.TooLarge text before after (page told) w)
   part_of_page Status.NotYet page told w = inl (gives_part _ Status.NotYet text before after (page told) w)
 
@@ -62,6 +64,7 @@ module _ (name : List ℕ) (old new : Outside) (before after : Written) (text : 
   page_prints Status.Done asked page printed told = whole_page Status.Done (same_page _ asked printed.0 page) told.0 (printed.1 told.1)
   page_prints Status.Rejected asked page printed told = whole_page Status.Rejected (same_page _ asked printed.0 page) told.0 (printed.1 told.1)
   page_prints Status.BadText asked page printed told = whole_page Status.BadText (same_page _ asked printed.0 page) told.0 (printed.1 told.1)
+  page_prints Status.Undecided asked page printed told = whole_page Status.Undecided (same_page _ asked printed.0 page) told.0 (printed.1 told.1)
   page_prints Status.TooLarge asked page printed told = whole_page Status.TooLarge (same_page _ asked printed.0 page) told.0 (printed.1 told.1)
   page_prints Status.NotYet asked page printed told = whole_page Status.NotYet (same_page _ asked printed.0 page) told.0 (printed.1 told.1)
 
@@ -74,6 +77,7 @@ module _ (name : List ℕ) (old new : Outside) (before after : Written) (text : 
   page_cause Status.Done asked page printed = refl
   page_cause Status.Rejected asked page printed = refl
   page_cause Status.BadText asked page printed = refl
+  page_cause Status.Undecided asked page printed = refl
   page_cause Status.TooLarge asked page printed = refl
   page_cause Status.NotYet asked page printed = refl
 
@@ -104,5 +108,6 @@ usage_prints files command old new before after result none printed told =
     here Status.Done p = whole Status.Done p.0 (p.1 told.1)
     here Status.Rejected p = whole Status.Rejected p.0 (p.1 told.1)
     here Status.BadText p = whole Status.BadText p.0 (p.1 told.1)
+    here Status.Undecided p = whole Status.Undecided p.0 (p.1 told.1)
     here Status.TooLarge p = whole Status.TooLarge p.0 (p.1 told.1)
     here Status.NotYet p = whole Status.NotYet p.0 (p.1 told.1)

@@ -1,5 +1,5 @@
 -- What is said of the pages that code makes.
-use Rattle.std.specs.Prelude.{◌≡◌, ℕ, List, Some}
+use Rattle.std.specs.Prelude.{◌≡◌, ℕ, List, Option, None, Some}
 use Rattle.std.specs.String.{string_bytes}
 use Rattle.asm_core.specs.Interface.{interface_of}
 use Rattle.asm_core.specs.Frame.{KeepsFrame}
@@ -11,6 +11,7 @@ use Rattle.blk_check.specs.FirstForm.{first_form_of}
 use Rattle.ck_app.specs.Answer.{Answer}
 use Rattle.ck_app.specs.FirstFile.{statement_of}
 use Rattle.ck_app.specs.declared.judge.Page.{Page}
+use Rattle.ck_app.specs.declared.status.Status.{Status}
 
 -- the page has the answer's bytes and its status
 pub record IsPage (page : Page) (a : Answer) : Type 0 where
@@ -24,3 +25,14 @@ KeepsFramesOf s = (parts : Parts) (lines : List Sym) → s.body ≡ Body.Parts p
 -- so does the statement of the file, if it has one
 abbrev pub KeepsFrames : List ℕ → Type 0
 KeepsFrames text = (s : Statement) → statement_of text ≡ Some s → KeepsFramesOf s
+
+-- a page exactly where there is an answer, with its bytes and its status
+abbrev pub IsPageIfAny : Option Page → Option Answer → Type 0
+IsPageIfAny None a = a ≡ None
+IsPageIfAny (Some page) None = ⊥
+IsPageIfAny (Some page) (Some a) = IsPage page a
+
+-- what a page that ends a run as done says of the file; without a page nothing is judged
+abbrev pub IsFramedIfDone : Option Page → List ℕ → Type 0
+IsFramedIfDone None text = KeepsFrames text
+IsFramedIfDone (Some page) text = page.status ≡ Status.Done → KeepsFrames text

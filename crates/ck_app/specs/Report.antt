@@ -3,8 +3,13 @@ use Rattle.std.specs.Prelude.{ℕ, List, [], ◌∷◌, ◌++◌, codes, decimal
 use Rattle.std.specs.List.{flat_map}
 use Rattle.asm_core.specs.Finding.{finding_text, rule_phrase}
 use Rattle.asm_core.specs.declared.finding.Finding.{Finding}
+use Rattle.asm_core.specs.declared.mark.MarkKind.{MarkKind}
 use Rattle.c_tokens.specs.Lines.{line_col_of}
 use Rattle.c_tokens.specs.declared.token_end.TokenEnd.{TokenEnd}
+
+-- as `1:20`
+abbrev pub line_column_text : ℕ × ℕ → List ℕ
+line_column_text place = decimal place.0 ++ codes ":" ++ decimal place.1
 
 -- as `a.c:1:20: `
 abbrev pub place_text : List ℕ → ℕ × ℕ → List ℕ
@@ -18,6 +23,21 @@ finding_line place f = place ++ codes "broken " ++ finding_text f ++ codes ": " 
 abbrev pub statement_lines : List ℕ → List Finding → List ℕ
 statement_lines place [] = place ++ codes "ok\n"
 statement_lines place (f ∷ fs) = flat_map (finding_line place) (f ∷ fs)
+
+-- what a kind of mark is called
+abbrev pub kind_name : MarkKind → List ℕ
+kind_name MarkKind.Statement = codes "statement form"
+kind_name MarkKind.Clobber = codes "clobber name"
+kind_name MarkKind.Operand = codes "operand type"
+kind_name MarkKind.Constraint = codes "constraint"
+kind_name MarkKind.Template = codes "template form"
+kind_name MarkKind.Shapes = codes "shapes"
+kind_name MarkKind.Lines = codes "lines"
+kind_name MarkKind.Instruction = codes "instruction"
+
+-- the line of a statement at that place that is outside the tables, as `a.c:1:20: undecided statement form at 1:20`
+abbrev pub mark_line : List ℕ → MarkKind → ℕ × ℕ → List ℕ
+mark_line place kind at = place ++ codes "undecided " ++ kind_name kind ++ codes " at " ++ line_column_text at ++ codes "\n"
 
 abbrev pub cannot_be_read_line : List ℕ → List ℕ
 cannot_be_read_line name = name ++ codes ": cannot be read\n"

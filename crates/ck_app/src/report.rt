@@ -1,14 +1,15 @@
 ghost use Rattle.std.specs.Prelude.{◌≡◌, ◌<◌, ◌++◌, Some, length, IfOk, OnOk};
 ghost use Rattle.std.specs.List.{flat_map};
 ghost use Rattle.std.specs.String.{string_bytes};
-ghost use Rattle.ck_app.specs.Report.{statement_lines, finding_line, place_text, bad_text_line, fault_of, cannot_be_read_line, too_large_line, not_yet_line};
+ghost use Rattle.ck_app.specs.Report.{statement_lines, finding_line, mark_line, kind_name, place_text, bad_text_line, fault_of, cannot_be_read_line, too_large_line, not_yet_line};
 ghost use Rattle.c_tokens.specs.Lines.{line_col_of};
 
-use asm_core::{Finding, Memory};
-use c_tokens::{TokenEnd, line_col};
+use asm_core::{Finding, Mark, MarkKind, Memory};
+use c_tokens::{LineStarts, TokenEnd, line_col};
 use std::alloc::Global;
 use std::fmt;
 use std::fmt::Write;
+use std::marker::Model;
 
 /// A place in a file, with which each line of a report begins.
 #[derive(Clone, Copy, Debug)]
@@ -39,6 +40,70 @@ impl<'a> Place<'a> {
     }
 }
 
+/// A line and a column, both counted from 1.
+#[derive(Clone, Copy)]
+struct LineColumn {
+    line: u32,
+    column: u32,
+}
+
+impl fmt::Display for LineColumn {
+    ghost use Rattle.std.specs.Prelude.{Some};
+    ghost use Rattle.ck_app.specs.Report.{line_column_text};
+
+    ghost output = { λ p. Some (line_column_text (p.line, p.column)) };
+
+    fn fmt<W: fmt::Write>(&self, f: &mut fmt::Formatter<W>) -> fmt::Result {
+        write!(f, "{}:{}", self.line, self.column)
+    }
+}
+
+/// The places of a file, found without counting from its beginning each time.
+#[derive(Drop)]
+pub struct Places<'a> {
+    name: &'a str,
+    starts: LineStarts<'a>,
+    end: u32,
+}
+
+impl<'a> Model for Places<'a> {
+    ghost use Rattle.std.specs.Prelude.{List, ℕ, ◌≡◌, length};
+
+    // The file's name and its text.
+    ghost Value = { List ℕ × List ℕ };
+
+    ghost view = { λ p. (p.name.now, p.starts) };
+
+    ghost invariant = { λ p. p.end ≡ length p.starts };
+}
+
+impl<'a> Places<'a> {
+    ghost use Rattle.ck_app.specs.Place.{IsPlaceOf};
+
+    pub fn new(alloc: Global, name: &'a str, text: &'a [u8]) -> Result<Self, Memory>
+        requires { length text.now < 4294967295 }
+        ensures { IfOk result (λ places. places ≡ (name.now, text.now)) }
+    {
+        Ok(Places {
+            name,
+            starts: LineStarts::new(alloc, text)?,
+            end: text.len() as u32,
+        })
+    }
+
+    /// The place of an offset; one past the end counts as the end.
+    pub fn place(&self, offset: u32) -> Place<'a>
+        ensures { IsPlaceOf result self.now.0 (line_col_of self.now.1 offset) }
+    {
+        let (line, column) = self.starts.line_col(offset.min(self.end));
+        Place {
+            name: self.name,
+            line,
+            column,
+        }
+    }
+}
+
 /// The lines of the statement at that place: accepted, or what is wrong with it.
 pub fn statement_lines(alloc: Global, place: Place<'_>, findings: &[Finding]) -> Result<String, Memory>
     ensures { IfOk result (λ text. string_bytes text ≡ statement_lines (place_text place.entry.name.now (place.entry.line, place.entry.column)) findings.now) }
@@ -64,6 +129,37 @@ fn append_finding(lines: &mut String, place: Place<'_>, finding: &Finding) -> Re
 {
     write!(lines, "{place}broken {finding}: {}\n", finding.rule.phrase())?;
     Ok(())
+}
+
+/// Appends the line of a statement at an offset that is outside the tables.
+pub fn append_mark(lines: &mut String, places: &Places<'_>, offset: u32, mark: Mark) -> Result<(), Memory>
+    ensures { OnOk result (string_bytes lines.new ≡ string_bytes lines.old
+        ++ mark_line (place_text places.now.0 (line_col_of places.now.1 offset)) mark.kind (line_col_of places.now.1 mark.place)) }
+{
+    let Place { line, column, .. } = places.place(mark.place);
+    append_mark_line(lines, places.place(offset), mark.kind, LineColumn { line, column })
+}
+
+fn append_mark_line(lines: &mut String, place: Place<'_>, kind: MarkKind, at: LineColumn) -> Result<(), Memory>
+    ensures { OnOk result (string_bytes lines.new ≡ string_bytes lines.old ++ mark_line (place_text place.entry.name.now (place.entry.line, place.entry.column)) kind (at.line, at.column)) }
+{
+    write!(lines, "{place}undecided {} at {at}\n", kind_name(kind))?;
+    Ok(())
+}
+
+fn kind_name(kind: MarkKind) -> &'static str
+    ensures { result.now ≡ kind_name kind }
+{
+    match kind {
+        MarkKind::Statement => "statement form",
+        MarkKind::Clobber => "clobber name",
+        MarkKind::Operand => "operand type",
+        MarkKind::Constraint => "constraint",
+        MarkKind::Template => "template form",
+        MarkKind::Shapes => "shapes",
+        MarkKind::Lines => "lines",
+        MarkKind::Instruction => "instruction",
+    }
 }
 
 pub fn cannot_be_read_line(alloc: Global, name: &str) -> Result<String, Memory>

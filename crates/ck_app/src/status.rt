@@ -8,6 +8,8 @@ pub enum Status {
     Rejected,
     /// The words are of no known form.
     Usage,
+    /// Some statement is outside what asmck knows, and none breaks a rule.
+    Undecided,
     /// A file could not be read.
     ReadFault,
     /// A file or the output could not be written.
@@ -32,6 +34,7 @@ impl Status {
             Status::Done => 0,
             Status::Rejected => 1,
             Status::Usage => 2,
+            Status::Undecided => 3,
             Status::ReadFault => 4,
             Status::WriteFault => 5,
             Status::BadText => 6,

@@ -1,7 +1,7 @@
 use Rattle.std.proofs.Common.{sym, ◌∙◌, ap}
 use Rattle.ck_app.specs.Answer.{status_with}
 use Rattle.ck_app.proofs.FrameLaws.{file_framed}
-use Rattle.ck_app.proofs.judge.judge_statement.Goals as goal
+use Rattle.ck_app.proofs.judge.first_page.Goals as goal
 
 pub returns-clause-framed : goal.returns-clause-framed
 returns-clause-framed c = λ done.
