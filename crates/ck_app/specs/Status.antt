@@ -1,5 +1,5 @@
 -- How a run ends, and the exit status of the process.
-use Rattle.std.specs.Prelude.{ℕ, Bool, true, false}
+use Rattle.std.specs.Prelude.{ℕ}
 use Rattle.ck_app.specs.declared.status.Status.{Status}
 use Rattle.ck_app.specs.declared.status.Status.TheVariants.{Done, Rejected, Usage, ReadFault, WriteFault, BadText, TooLarge, Memory, NotYet}
 
@@ -13,10 +13,3 @@ code_of BadText = 6
 code_of TooLarge = 7
 code_of Memory = 8
 code_of NotYet = 10
-
--- the outside refused, or memory ran out
-abbrev pub is_refusal : Status → Bool
-is_refusal ReadFault = true
-is_refusal WriteFault = true
-is_refusal Memory = true
-is_refusal status = false
