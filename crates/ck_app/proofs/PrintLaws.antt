@@ -1,12 +1,11 @@
 -- From pages to what a run has printed.
-use Rattle.std.proofs.Common.{◌≡◌, ◌⊎◌, inl, inr, ℕ, ◌≤◌, List, [], Option, None, Some, true, refl, sym, ◌∙◌, ap, subst, arith, length, take, IsTrue}
+use Rattle.std.proofs.Common.{◌≡◌, inl, inr, ℕ, List, Option, None, Some, true, refl, sym, subst, arith, IsTrue}
 use Rattle.std.proofs.lemmas.List.{append-nil}
-use Rattle.ck_ports.specs.Faults.{Rose, RisesAt}
+use Rattle.ck_ports.specs.Faults.{RisesAt}
 use Rattle.ck_ports.specs.Outside.{Outside}
 use Rattle.ck_ports.specs.Written.{Written, Writes, WritesPrefix}
 use Rattle.ck_app.specs.Answer.{Answer, read_answer, command_answer}
-use Rattle.ck_app.specs.Report.{cannot_be_read_line}
-use Rattle.ck_app.specs.Run.{Tells, HasReadFault, PrintsReadFault, PrintsPartOfReadFault, PrintsPart, GivesAnswer, GivesText, Prints, HasCause, IsPageOf, IsPrinted, is_page_status}
+use Rattle.ck_app.specs.Run.{Tells, HasReadFault, PrintsPart, GivesAnswer, GivesText, Prints, HasCause, IsPageOf, IsPrinted, is_page_status}
 use Rattle.ck_app.specs.Words.{Command, usage_line}
 use Rattle.ck_app.specs.declared.status.Status.{Status}
 

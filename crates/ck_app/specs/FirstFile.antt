@@ -4,7 +4,6 @@ use Rattle.std.specs.Prelude.{ℕ, ◌+◌, ◌==◌, List, [], ◌∷◌, lengt
 use Rattle.asm_core.specs.Lists.{count_from}
 use Rattle.asm_core.specs.declared.statement.Quoted.{Quoted}
 use Rattle.asm_core.specs.declared.statement.Part.{Part}
-use Rattle.asm_core.specs.declared.statement.Parts.{Parts}
 use Rattle.asm_core.specs.declared.statement.Body.{Body}
 use Rattle.asm_core.specs.declared.statement.Statement.{Statement}
 use Rattle.blk_check.specs.FirstForm.{same_text, after_prefix}

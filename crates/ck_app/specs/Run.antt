@@ -1,5 +1,5 @@
 -- What `run` promises of what it prints and how it ends.
-use Rattle.std.specs.Prelude.{◌≡◌, ◌⊎◌, ℕ, ◌≤◌, ◌&&◌, List, Bool, true, false, IsTrue, Option, None, Some, IsSome}
+use Rattle.std.specs.Prelude.{◌≡◌, ◌⊎◌, ℕ, ◌≤◌, List, Bool, true, false, IsTrue, Option, None, Some, IsSome}
 use Rattle.asm_core.specs.Lists.{IsMember}
 use Rattle.ck_ports.specs.Faults.{Rose, RisesAt}
 use Rattle.ck_ports.specs.Outside.{Outside}
