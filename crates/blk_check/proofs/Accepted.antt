@@ -1,6 +1,5 @@
 -- From the answer of `check` to the theorem.
 use Rattle.std.proofs.Common.{◌≡◌, List, [], Some, sym, ◌∙◌, ap, subst}
-use Rattle.asm_core.specs.Interface.{interface_of}
 use Rattle.asm_core.specs.Frame.{KeepsFrame}
 use Rattle.asm_core.specs.declared.statement.Statement.{Statement}
 use Rattle.asm_core.specs.declared.interface.Interface.{Interface}

@@ -54,7 +54,7 @@ module _ (n more : ℕ) (bytes at : List ℕ) (from end : ℕ) (before : List Sy
   after-no_blank line is inside other = with_line line is ∙ ap (after (before ++ line ∷ [])) (rest_other inside other)
 
   pub after-next_line : (line : Sym) → line_of (slice_index at from) (slice_range bytes from end) ≡ Some line → end ≢ length bytes → slice_index bytes (end + 1) ≡ 32
-    → after (before ++ line ∷ []) (lines_from more bytes at (end + 2)) ≡ after before (lines_from n bytes at from)
+      → after (before ++ line ∷ []) (lines_from more bytes at (end + 2)) ≡ after before (lines_from n bytes at from)
   after-next_line line is inside blank = sym (with_line line is ∙ ap (after (before ++ line ∷ [])) (rest_next inside blank))
 
 -- no more lines may come

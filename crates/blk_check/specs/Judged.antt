@@ -34,6 +34,6 @@ IsVerdict s i (Verdict.Broken findings) = (lines : List Sym) × (lines_in s ≡ 
 IsVerdict s i (Verdict.Outside mark) = ⊥
 
 -- an accepted statement changes only what it declares
-abbrev pub IsFramed : Verdict → Type 0
-IsFramed (Verdict.Ok proof) = KeepsFrame proof.interface proof.lines
-IsFramed verdict = Unit {0}
+abbrev pub OkKeepsFrame : Verdict → Type 0
+OkKeepsFrame (Verdict.Ok proof) = KeepsFrame proof.interface proof.lines
+OkKeepsFrame verdict = Unit {0}

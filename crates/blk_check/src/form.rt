@@ -10,6 +10,10 @@ use std::alloc::Global;
 const MAX_LINES: usize = 100;
 
 /// The lines of a statement in the form that is judged so far; none of another one.
+///
+/// It has 1 to 100 lines, joined by `; `, each `movl S,%0` or `addl S,%0` with S `%0`, `%1` or `$N` and N from 0 to
+/// 2147483647. Its operands are `"=r"` and `"r"`, `"+r"` and `"r"`, or the input `"r"` alone, and its one clobber, if any,
+/// is `cc`. A first line sets an output that is written alone, and no later line reads `%1`.
 pub fn first_form(alloc: Global, parts: &Parts) -> Result<Option<Items<Sym>>, Memory>
     ensures { IfOk result (λ lines. lines ≡ first_form_of parts.now) }
 {
@@ -64,7 +68,11 @@ fn place_at(template: &Quoted, index: usize) -> u32
     ensures { result ≡ slice_index template.now.at index }
 {
     let places = template.at.as_slice();
-    if index < places.len() { places[index] } else { 0 }
+    if index < places.len() {
+        places[index]
+    } else {
+        0
+    }
 }
 
 /// The byte at an index, 0 past the end.

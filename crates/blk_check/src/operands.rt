@@ -5,7 +5,8 @@ use asm_core::{AltIface, Interface, Items, Memory, OperandIface, Part, Parts, Re
 use bitflags::Flags;
 use std::alloc::Global;
 
-/// The interface of a statement whose operands are 4-byte values in registers and whose one clobber is `cc`.
+/// The interface of a statement whose operands are 4-byte values in registers and whose one clobber, if any, is `cc`.
+/// Of another statement it says nothing.
 pub fn interface(alloc: Global, parts: &Parts) -> Result<Interface, Memory>
     ensures { IfOk result (λ made. made ≡ interface_of parts.now) }
 {
@@ -20,7 +21,11 @@ pub fn interface(alloc: Global, parts: &Parts) -> Result<Interface, Memory>
     })
 }
 
-fn append_operands(alloc: Global, operands: &mut Items<OperandIface>, parts: &[Part]) -> Result<(), Memory>
+fn append_operands(
+    alloc: Global,
+    operands: &mut Items<OperandIface>,
+    parts: &[Part],
+) -> Result<(), Memory>
     ensures { OnOk result (operands.new ≡ operands.old ++ map register_operand parts.now) }
 {
     for part in parts {

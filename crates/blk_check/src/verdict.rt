@@ -1,10 +1,13 @@
 ghost use Rattle.std.specs.Prelude.{◌≡◌, ◌++◌, not, slice_get, IfOk, OnOk};
 ghost use Rattle.std.specs.List.{list_any};
-ghost use Rattle.blk_check.specs.Judged.{IsInForm, IsVerdict, IsFramed, lines_in};
+ghost use Rattle.blk_check.specs.Judged.{IsInForm, IsVerdict, OkKeepsFrame, lines_in};
 ghost use Rattle.blk_check.specs.Verdict.{verdict_of, is_input_alone, finding_if, at_end, moves_to_itself, sets_flags};
 
 use crate::form::{first_form, reads};
-use asm_core::{Body, Cell, Duplicate, END_LINE, Finding, Interface, Items, Mark, Memory, Op, Role, Rule, Statement, Sym};
+use asm_core::{
+    Body, Cell, Duplicate, END_LINE, Finding, Interface, Items, Mark, Memory, Op, Role, Rule,
+    Statement, Sym,
+};
 use std::alloc::Global;
 use std::marker::Model;
 
@@ -45,14 +48,15 @@ pub enum Verdict {
     Ok(Proof),
     /// Each broken rule, in the order of reports.
     Broken(Items<Finding>),
+    /// What lies outside the tables. No call answers it yet.
     Outside(Mark),
 }
 
-/// Judges a statement in the form that is judged so far.
+/// Judges a statement in the form that is judged so far (`first_form`), given its own interface.
 pub fn check(alloc: Global, statement: &Statement, interface: &Interface) -> Result<Verdict, Memory>
     requires { IsInForm statement.now interface.now }
     ensures verdict { IfOk result (IsVerdict statement.now interface.now) }
-    ensures frame { IfOk result IsFramed }
+    ensures frame { IfOk result OkKeepsFrame }
 {
     let Some(lines) = lines_in(alloc, statement)? else {
         unreachable!()
@@ -85,7 +89,11 @@ fn findings(alloc: Global, interface: &Interface, lines: &[Sym]) -> Result<Items
     let input_changed = is_input_alone(interface) && changes_operand(lines);
     let flags_changed = changes_flags(lines) && !interface.cc;
     let mut findings = Items::new(alloc);
-    push_if(&mut findings, input_changed, at_end(Rule::W2, Cell::Operand(0)))?;
+    push_if(
+        &mut findings,
+        input_changed,
+        at_end(Rule::W2, Cell::Operand(0)),
+    )?;
     push_if(&mut findings, flags_changed, at_end(Rule::W3, Cell::Cc))?;
     Ok(findings)
 }

@@ -1,5 +1,5 @@
 -- Numbers that count the items of a list.
-use Rattle.std.proofs.Common.{◌≡◌, ℕ, zero, suc, ◌+◌, ◌<◌, List, [], ◌∷◌, ◌++◌, length, take, refl, ap, ◌∙◌, arith, add-zero, add-one}
+use Rattle.std.proofs.Common.{◌≡◌, ℕ, zero, suc, ◌+◌, ◌<◌, List, [], ◌∷◌, ◌++◌, length, take, ap, ◌∙◌, arith}
 use Rattle.asm_core.specs.Lists.{count_from}
 
 pub count_from-take : (n k : ℕ) (xs : List ℕ) → k < length xs → count_from n (take (k + 1) xs) ≡ count_from n (take k xs) ++ (n + k) ∷ []

@@ -1,5 +1,5 @@
 -- From the status of a page to the theorem.
-use Rattle.std.proofs.Common.{◌≡◌, ℕ, List, [], ◌∷◌, Option, Some, refl, sym, ◌∙◌, ap, subst}
+use Rattle.std.proofs.Common.{◌≡◌, ℕ, List, [], ◌∷◌, Some, refl, ap, subst}
 use Rattle.asm_core.specs.declared.finding.Finding.{Finding}
 use Rattle.asm_core.specs.declared.statement.Statement.{Statement}
 use Rattle.ck_app.specs.Answer.{status_with}

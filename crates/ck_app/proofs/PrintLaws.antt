@@ -1,12 +1,11 @@
 -- From pages to what a run has printed.
-use Rattle.std.proofs.Common.{◌≡◌, ◌⊎◌, inl, inr, ℕ, ◌≤◌, List, [], Option, None, Some, true, refl, sym, ◌∙◌, ap, subst, arith, length, take, IsTrue}
+use Rattle.std.proofs.Common.{◌≡◌, inl, inr, ℕ, List, Option, None, Some, true, refl, sym, subst, arith, IsTrue}
 use Rattle.std.proofs.lemmas.List.{append-nil}
-use Rattle.ck_ports.specs.Faults.{Rose, RisesAt}
+use Rattle.ck_ports.specs.Faults.{RisesAt}
 use Rattle.ck_ports.specs.Outside.{Outside}
 use Rattle.ck_ports.specs.Written.{Written, Writes, WritesPrefix}
 use Rattle.ck_app.specs.Answer.{Answer, read_answer, command_answer}
-use Rattle.ck_app.specs.Report.{cannot_be_read_line}
-use Rattle.ck_app.specs.Run.{Tells, HasReadFault, PrintsReadFault, PrintsPartOfReadFault, PrintsPart, GivesAnswer, GivesText, Prints, HasCause, IsPageOf, IsPrinted, is_page_status}
+use Rattle.ck_app.specs.Run.{Tells, HasReadFault, PrintsPart, GivesAnswer, GivesText, Prints, HasCause, IsPageOf, IsPrinted, is_page_status}
 use Rattle.ck_app.specs.Words.{Command, usage_line}
 use Rattle.ck_app.specs.declared.status.Status.{Status}
 
@@ -24,9 +23,8 @@ gives_part : (a : Answer) (status : Status) (text : List ℕ) (before after : Wr
 gives_part a status text before after g w = subst (λ t. WritesPrefix t before after) g.text_is w
 
 module _ (name : List ℕ) (old new : Outside) (before after : Written) (text : List ℕ) where
-
   whole_page : (status : Status) → IsPageOf status text name old new → IsTrue old.tells → Writes text before after
-    → Prints status (Some (Command.Check name)) (read_answer name (old.file name)) old new before after
+      → Prints status (Some (Command.Check name)) (read_answer name (old.file name)) old new before after
   whole_page Status.ReadFault page told w = record { fault = read_here name old new page.0; line = subst (λ t. Writes t before after) page.1 w }
   whole_page Status.Usage page told w = absurd page
   whole_page Status.WriteFault page told w = absurd page
@@ -39,7 +37,7 @@ module _ (name : List ℕ) (old new : Outside) (before after : Written) (text : 
   whole_page Status.NotYet page told w = gives _ Status.NotYet text before after (page told) w
 
   part_of_page : (status : Status) → IsPageOf status text name old new → IsTrue old.tells → WritesPrefix text before after
-    → PrintsPart (Some (Command.Check name)) (read_answer name (old.file name)) old new before after
+      → PrintsPart (Some (Command.Check name)) (read_answer name (old.file name)) old new before after
   part_of_page Status.ReadFault page told w = inr (record { fault = read_here name old new page.0; part = subst (λ t. WritesPrefix t before after) page.1 w })
   part_of_page Status.Usage page told w = absurd page
   part_of_page Status.WriteFault page told w = absurd page
@@ -56,7 +54,7 @@ module _ (name : List ℕ) (old new : Outside) (before after : Written) (text : 
 
   -- what printing a page makes of the run
   pub page_prints : (result asked : Status) → IsPageOf asked text name old new → IsPrinted result asked text before after → Tells old before
-    → Prints result (Some (Command.Check name)) (read_answer name (old.file name)) old new before after
+      → Prints result (Some (Command.Check name)) (read_answer name (old.file name)) old new before after
   page_prints Status.WriteFault asked page printed told = part_of_page asked page told.0 (printed.1 told.1)
   page_prints Status.Memory asked page printed told = part_of_page asked page told.0 (printed told.1)
   page_prints Status.ReadFault asked page printed told = whole_page Status.ReadFault (same_page _ asked printed.0 page) told.0 (printed.1 told.1)

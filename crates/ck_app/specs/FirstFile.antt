@@ -4,7 +4,6 @@ use Rattle.std.specs.Prelude.{ℕ, ◌+◌, ◌==◌, List, [], ◌∷◌, lengt
 use Rattle.asm_core.specs.Lists.{count_from}
 use Rattle.asm_core.specs.declared.statement.Quoted.{Quoted}
 use Rattle.asm_core.specs.declared.statement.Part.{Part}
-use Rattle.asm_core.specs.declared.statement.Parts.{Parts}
 use Rattle.asm_core.specs.declared.statement.Body.{Body}
 use Rattle.asm_core.specs.declared.statement.Statement.{Statement}
 use Rattle.blk_check.specs.FirstForm.{same_text, after_prefix}
@@ -18,9 +17,11 @@ operands_of text = written (after_prefix (codes "\":\"=r\"(y):\"r\"(x)") text)
     read : Option (List ℕ) → Option (Operands × List ℕ)
     read None = None
     read (Some rest) = Some (Operands.Read, rest)
+
     changed : Option (List ℕ) → Option (Operands × List ℕ)
     changed None = read (after_prefix (codes "\"::\"r\"(x)") text)
     changed (Some rest) = Some (Operands.Changed, rest)
+
     written : Option (List ℕ) → Option (Operands × List ℕ)
     written None = changed (after_prefix (codes "\":\"+r\"(y):\"r\"(x)") text)
     written (Some rest) = Some (Operands.Written, rest)
@@ -88,15 +89,15 @@ statement_with template tail =
     record {
       span = record { from = 19; to = last_at end tail.cc + 1 };
       body = Body.Parts
-      (record {
-        template = quoted_at 27 template;
-        outputs = outputs_at quote tail.operands;
-        inputs = inputs_at quote tail.operands;
-        clobbers = clobbers_at end tail.cc;
-        colons = colons_of tail;
-        last = last_at end tail.cc;
-        bad_template = None;
-      });
+          (record {
+            template = quoted_at 27 template;
+            outputs = outputs_at quote tail.operands;
+            inputs = inputs_at quote tail.operands;
+            clobbers = clobbers_at end tail.cc;
+            colons = colons_of tail;
+            last = last_at end tail.cc;
+            bad_template = None;
+          });
     }
 
 abbrev pub statement_before : List ℕ → Option ℕ → Option Statement

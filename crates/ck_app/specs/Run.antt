@@ -1,5 +1,5 @@
 -- What `run` promises of what it prints and how it ends.
-use Rattle.std.specs.Prelude.{◌≡◌, ◌⊎◌, ℕ, ◌&&◌, List, Bool, true, false, IsTrue, Option, None, Some, IsSome}
+use Rattle.std.specs.Prelude.{◌≡◌, ◌⊎◌, ℕ, ◌≤◌, List, Bool, true, false, IsTrue, Option, None, Some, IsSome}
 use Rattle.asm_core.specs.Lists.{IsMember}
 use Rattle.ck_ports.specs.Faults.{Rose, RisesAt}
 use Rattle.ck_ports.specs.Outside.{Outside}
@@ -19,6 +19,11 @@ pub record HasReadFault (command : Option Command) (old new : Outside) : Type 0 
   pub name : List ℕ
   pub is_read : IsMember name (names_read command)
   pub rises : RisesAt old.tells name old.reading new.reading
+
+-- the reading count never falls; it and its name are as before, or a file that the words tell to read could not be read
+pub record CountsReads (command : Option Command) (old new : Outside) : Type 0 where
+  pub never_falls : old.reading.count ≤ new.reading.count
+  pub either : (new.reading ≡ old.reading) ⊎ HasReadFault command old new
 
 -- the line that says so, and no other, was printed
 pub record PrintsReadFault (command : Option Command) (old new : Outside) (before after : Written) : Type 0 where

@@ -11,7 +11,8 @@ const KEYWORD: u32 = 19;
 /// The offset of the template's opening quote.
 const TEMPLATE: u32 = 27;
 
-/// The operands of the statement of a file that is judged so far.
+/// The operands of the statement of a file that is judged so far:
+/// `int f(int x,int y){__asm__("LINES":OPERANDS);return y;}` and a newline, with or without `:"cc"` behind the operands.
 #[derive(Clone, Copy, Debug, PartialEq, Eq)]
 pub enum Operands {
     /// `"=r"(y):"r"(x)`
@@ -29,7 +30,7 @@ pub struct Tail {
     pub cc: bool,
 }
 
-/// The statement of the text, where the text is such a file but for the lines of its template.
+/// The statement of the text, where the text is a file that is judged so far; its lines may still be of another form.
 pub fn statement(alloc: Global, text: &[u8]) -> Result<Option<Statement>, Memory>
     requires { length text.now ≤ MAX_FILE_BYTES }
     ensures { IfOk result (λ made. made ≡ statement_of text.now) }

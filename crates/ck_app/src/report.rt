@@ -11,7 +11,7 @@ use std::fmt;
 use std::fmt::Write;
 use std::marker::Model;
 
-/// A place in a file, with which each line of a report begins.
+/// A place in a file, with which each line of a report begins. Lines and columns count from 1, columns in bytes.
 #[derive(Clone, Copy, Debug)]
 pub struct Place<'a> {
     pub name: &'a str,
@@ -105,7 +105,11 @@ impl<'a> Places<'a> {
 }
 
 /// The lines of the statement at that place: accepted, or what is wrong with it.
-pub fn statement_lines(alloc: Global, place: Place<'_>, findings: &[Finding]) -> Result<String, Memory>
+pub fn statement_lines(
+    alloc: Global,
+    place: Place<'_>,
+    findings: &[Finding],
+) -> Result<String, Memory>
     ensures { IfOk result (λ text. string_bytes text ≡ statement_lines (place_text place.entry.name.now (place.entry.line, place.entry.column)) findings.now) }
 {
     match findings {
@@ -127,7 +131,11 @@ fn finding_lines(alloc: Global, place: Place<'_>, findings: &[Finding]) -> Resul
 fn append_finding(lines: &mut String, place: Place<'_>, finding: &Finding) -> Result<(), Memory>
     ensures { OnOk result (string_bytes lines.new ≡ string_bytes lines.old ++ finding_line (place_text place.entry.name.now (place.entry.line, place.entry.column)) finding.now) }
 {
-    write!(lines, "{place}broken {finding}: {}\n", finding.rule.phrase())?;
+    write!(
+        lines,
+        "{place}broken {finding}: {}\n",
+        finding.rule.phrase()
+    )?;
     Ok(())
 }
 
@@ -181,7 +189,12 @@ pub fn not_yet_line(alloc: Global, name: &str) -> Result<String, Memory>
 }
 
 /// The line of a fault of the text.
-pub fn bad_text_line(alloc: Global, name: &str, text: &[u8], end: TokenEnd) -> Result<String, Memory>
+pub fn bad_text_line(
+    alloc: Global,
+    name: &str,
+    text: &[u8],
+    end: TokenEnd,
+) -> Result<String, Memory>
     requires { length text.now < 4294967295 }
     ensures { IfOk result (λ line. string_bytes line ≡ bad_text_line name.now text.now end) }
 {

@@ -1,10 +1,11 @@
 ghost use Rattle.std.specs.Prelude.{◌≡◌, ◌≤◌, true, map, Some, IfOk, IsTrue};
 ghost use Rattle.std.specs.String.{string_bytes};
 ghost use Rattle.ck_ports.specs.declared.files.Mode.TheVariants.{Closed};
+ghost use Rattle.ck_ports.specs.Faults.{CountsAt};
 ghost use Rattle.ck_ports.specs.Outside.{SameFiles};
 ghost use Rattle.ck_app.specs.Answer.{answer_of, read_answer};
 ghost use Rattle.ck_app.specs.Words.{check_command, command_of};
-ghost use Rattle.ck_app.specs.Run.{Tells, Prints, HasCause, OkIsFramed, IsPageOf, IsPrinted, is_page_status};
+ghost use Rattle.ck_app.specs.Run.{Tells, Prints, HasCause, CountsReads, OkIsFramed, IsPageOf, IsPrinted, is_page_status};
 
 use crate::Status;
 use crate::judge::{Page, judge};
@@ -14,7 +15,8 @@ use asm_core::Memory;
 use ck_ports::{Files, PortEnd, ReadEnd, Sink, read_all, write_all};
 use std::alloc::Global;
 
-const USAGE: &str = "usage: asmck check FILE.. | patch IN OUT | lift IN OUT | try FILE K SEED STEPS | gen SEED COUNT\n";
+const USAGE: &str =
+    "usage: asmck check FILE.. | patch IN OUT | lift IN OUT | try FILE K SEED STEPS | gen SEED COUNT\n";
 
 /// Does what the words ask for, the first of them being the program's name, and prints to `out`.
 ///
@@ -26,7 +28,7 @@ pub fn run<F: Files, K: Sink>(alloc: Global, words: &[String], files: &mut F, ou
     // What is printed, by how the run ended: the answer, unless something was refused.
     ensures prints { Tells (F.outside files.old) (K.written out.old)
         → Prints result (command_of (map string_bytes words.now)) (answer_of (map string_bytes words.now) (F.outside files.old).file)
-            (F.outside files.old) (F.outside files.new) (K.written out.old) (K.written out.new) }
+        (F.outside files.old) (F.outside files.new) (K.written out.old) (K.written out.new) }
 
     // Each refusal has its cause, also where nothing is told.
     ensures cause { HasCause result (command_of (map string_bytes words.now))
@@ -36,9 +38,10 @@ pub fn run<F: Files, K: Sink>(alloc: Global, words: &[String], files: &mut F, ou
     ensures framed { Tells (F.outside files.old) (K.written out.old) → result ≡ Status.Done
         → OkIsFramed (command_of (map string_bytes words.now)) (F.outside files.old) }
 
-    // No file is changed, and all are closed.
+    // No file is changed, all are closed, and only a file that the words tell to read could not be read.
     ensures closed { (F.outside files.new).mode ≡ Closed }
     ensures files { SameFiles (F.outside files.old) (F.outside files.new) }
+    ensures reading { CountsReads (command_of (map string_bytes words.now)) (F.outside files.old) (F.outside files.new) }
     ensures writing { (F.outside files.new).writing ≡ (F.outside files.old).writing }
     ensures files_tell { (F.outside files.new).tells ≡ (F.outside files.old).tells }
     ensures out_tells { (K.written out.new).tells ≡ (K.written out.old).tells }
@@ -55,7 +58,7 @@ fn check_file<F: Files, K: Sink>(alloc: Global, name: &str, files: &mut F, out: 
 
     ensures prints { Tells (F.outside files.old) (K.written out.old)
         → Prints result (Some (check_command name.now)) (read_answer name.now ((F.outside files.old).file name.now))
-            (F.outside files.old) (F.outside files.new) (K.written out.old) (K.written out.new) }
+        (F.outside files.old) (F.outside files.new) (K.written out.old) (K.written out.new) }
     ensures cause { HasCause result (Some (check_command name.now))
         (F.outside files.old) (F.outside files.new) (K.written out.old) (K.written out.new) }
     ensures framed { Tells (F.outside files.old) (K.written out.old) → result ≡ Status.Done
@@ -63,6 +66,7 @@ fn check_file<F: Files, K: Sink>(alloc: Global, name: &str, files: &mut F, out: 
 
     ensures closed { (F.outside files.new).mode ≡ Closed }
     ensures files { SameFiles (F.outside files.old) (F.outside files.new) }
+    ensures reading { CountsReads (Some (check_command name.now)) (F.outside files.old) (F.outside files.new) }
     ensures writing { (F.outside files.new).writing ≡ (F.outside files.old).writing }
     ensures files_tell { (F.outside files.new).tells ≡ (F.outside files.old).tells }
     ensures out_tells { (K.written out.new).tells ≡ (K.written out.old).tells }
@@ -84,6 +88,7 @@ fn page_of<F: Files>(alloc: Global, name: &str, files: &mut F) -> Result<Page, M
 
     ensures closed { (F.outside files.new).mode ≡ Closed }
     ensures files { SameFiles (F.outside files.old) (F.outside files.new) }
+    ensures reading { CountsAt (F.outside files.old).tells name.now (F.outside files.old).reading (F.outside files.new).reading }
     ensures writing { (F.outside files.new).writing ≡ (F.outside files.old).writing }
     ensures tells { (F.outside files.new).tells ≡ (F.outside files.old).tells }
 {

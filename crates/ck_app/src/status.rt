@@ -3,6 +3,7 @@ ghost use Rattle.std.specs.Prelude.{◌≡◌};
 /// How a run ends.
 #[derive(Clone, Copy, Debug, PartialEq, Eq)]
 pub enum Status {
+    /// Nothing is wrong.
     Done,
     /// Some statement breaks a rule.
     Rejected,
@@ -18,6 +19,7 @@ pub enum Status {
     BadText,
     /// A file has more than 16 MiB.
     TooLarge,
+    /// Memory ran out.
     Memory,
     /// A file holds what is not judged yet.
     NotYet,

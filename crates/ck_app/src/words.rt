@@ -8,7 +8,9 @@ pub fn checked_file(words: &[String]) -> Option<&str>
     ensures { option_map (λ file. check_command file.now) result ≡ command_of (map string_bytes words.now) }
 {
     match words {
-        [_, mode, file] if mode.as_str() == "check" && is_name(file.as_str()) => Some(file.as_str()),
+        [_, mode, file] if mode.as_str() == "check" && is_name(file.as_str()) => {
+            Some(file.as_str())
+        }
         _ => None,
     }
 }

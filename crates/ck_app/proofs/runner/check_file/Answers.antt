@@ -17,5 +17,5 @@ returns-in-Ok-clause-framed g c = λ told done text is_text.
     let before = g.K.Sink.written c.args.out.now in
     let after = g.K.Sink.written c.print.new.out in
     let page_is_done = page_done c.args.name.now (g.F.Files.outside c.args.files.now) (g.F.Files.outside c.page_of.new.files) before after c.as_bytes.result.now
-        c.print.result c.in-Ok.page.status c.print.ensures.printed done in
+    c.print.result c.in-Ok.page.status c.print.ensures.printed done in
     c.in-Ok.ensures.framed told.0 page_is_done text is_text
