@@ -87,8 +87,8 @@ static NOT_YET: [&str; 14] = [
     "__asm__(\"movl %1,%0\" :\"=r\"(y):\"r\"(x))",
 ];
 
-// A file that is no text of C tokens, or one that is but holds no statement.
-static TEXTS: [Row; 6] = [
+// Whole files: no text of C tokens, without a statement, with statements outside the tables.
+static FILES: [Row; 13] = [
     Row {
         statement: "char*s=\"ab",
         printed: "a.c:1:8: bad text: open string at 7\n",
@@ -110,12 +110,47 @@ static TEXTS: [Row; 6] = [
         code: 6,
     },
     Row {
+        statement: "",
+        printed: "",
+        code: 0,
+    },
+    Row {
         statement: "char*s=\"ab\";",
+        printed: "",
+        code: 0,
+    },
+    Row {
+        statement: "extern int g(void) __asm__(\"h\");\n",
+        printed: "",
+        code: 0,
+    },
+    Row {
+        statement: "void f(void){__asm__(\"nop\");}\n",
+        printed: "a.c:1:14: undecided statement form at 1:14\n",
+        code: 3,
+    },
+    Row {
+        statement: "__asm__(\"nop\"::);\n",
+        printed: "a.c:1:1: undecided statement form at 1:1\n",
+        code: 3,
+    },
+    Row {
+        statement: "int f(void){\n  asm goto(\"jmp %l0\"::::out);\nout:return 0;}\n",
+        printed: "a.c:2:3: undecided statement form at 2:3\n",
+        code: 3,
+    },
+    Row {
+        statement: "void f(void){asm(\"a\");asm(\"b\");}\n",
+        printed: "a.c:1:14: undecided statement form at 1:14\na.c:1:23: undecided statement form at 1:23\n",
+        code: 3,
+    },
+    Row {
+        statement: "void f(int x){asm(\"a\");asm(\"b\"::\"r\"(x));}\n",
         printed: "a.c: not yet\n",
         code: 10,
     },
     Row {
-        statement: "",
+        statement: "int f(int x,int y){__asm__(\"movl %1,%0\":\"=r\"(y):\"r\"(x));return y;}\n\n",
         printed: "a.c: not yet\n",
         code: 10,
     },
@@ -184,9 +219,28 @@ fn templates_have_at_most_100_lines(rt: HostRuntime) -> Result<(), Fail> {
 }
 
 #[test]
-fn texts_and_words_are_told_apart(rt: HostRuntime) -> Result<(), Fail> {
+fn statements_have_at_most_30_operands(rt: HostRuntime) -> Result<(), Fail> {
     let alloc = rt.alloc();
-    for row in &TEXTS {
+    for (count, printed, code) in [
+        (30, "a.c: not yet\n", 10),
+        (31, "a.c:1:20: undecided statement form at 1:20\n", 3),
+    ] {
+        let mut text = String::from_str(alloc, "int f(int x,int y){__asm__(\"\"::\"i\"(0)")?;
+        for _ in 1..count {
+            text.push_str(",\"i\"(0)")?;
+        }
+        text.push_str(");return y;}\n")?;
+        let ending = check(alloc, text.as_str(), &NOTHING)?;
+        assert_eq!(rt; ending.printed.as_slice(), printed.as_bytes(), "{count}");
+        assert_eq!(rt; ending.code, code, "{count}");
+    }
+    Ok(())
+}
+
+#[test]
+fn files_and_words_are_told_apart(rt: HostRuntime) -> Result<(), Fail> {
+    let alloc = rt.alloc();
+    for row in &FILES {
         let ending = check(alloc, row.statement, &NOTHING)?;
         assert_eq!(rt;
             ending.printed.as_slice(),

@@ -6,16 +6,12 @@ use Rattle.c_tokens.specs.declared.token_end.TokenEnd.{TokenEnd}
 use Rattle.asm_core.specs.declared.finding.Finding.{Finding}
 use Rattle.asm_core.specs.declared.statement.Statement.{Statement}
 use Rattle.ck_ports.specs.Outside.{Outside}
-use Rattle.ck_ports.specs.Written.{Written}
 use Rattle.ck_ports.specs.declared.transfer.TheConstants.{MAX_FILE_BYTES}
-use Rattle.ck_app.specs.Answer.{Answer, answer, status_with, judged_answer, first_answer, first_or, lines_answer, status_outside, outside_lines, statements_answer, tokens_answer, file_answer, read_answer, command_answer, findings_in}
+use Rattle.ck_app.specs.Answer.{Answer, answer, status_with, judged_answer, first_answer, first_or, lines_answer, status_outside, outside_lines, statements_answer, tokens_answer, file_answer, read_answer, findings_in}
 use Rattle.asm_statement.specs.Statements.{statements_of}
 use Rattle.ck_app.specs.FirstFile.{statement_of}
-use Rattle.ck_app.specs.Judge.{IsPage}
 use Rattle.ck_app.specs.Report.{too_large_line}
-use Rattle.ck_app.specs.Run.{Tells, Prints, GivesText, IsPageOf, IsPrinted}
-use Rattle.ck_app.specs.Words.{Command, usage_line}
-use Rattle.ck_app.specs.declared.judge.Page.{Page}
+use Rattle.ck_app.specs.Run.{GivesText, IsPageOf}
 use Rattle.ck_app.specs.declared.status.Status.{Status}
 
 -- the bytes of a file lead to one of these
