@@ -38,10 +38,10 @@ take_whole (x ∷ xs) ys = ap (λ (zs : List ℕ). x ∷ zs) (take_whole xs ys)
 but_last : (xs : List ℕ) (x : ℕ) → length (xs ++ x ∷ []) - 1 ≡ length xs
 but_last xs x = let more = length-append xs (x ∷ []) in omega (arith, more)
 
-take_but_last : (xs : List ℕ) (x : ℕ) → take (length (xs ++ x ∷ []) - 1) (xs ++ x ∷ []) ≡ xs
+pub take_but_last : (xs : List ℕ) (x : ℕ) → take (length (xs ++ x ∷ []) - 1) (xs ++ x ∷ []) ≡ xs
 take_but_last xs x = rw (but_last xs x) (take_whole xs (x ∷ []))
 
-last_of : (xs : List ℕ) (x : ℕ) → get_or (xs ++ x ∷ []) (length (xs ++ x ∷ []) - 1) 0 ≡ x
+pub last_of : (xs : List ℕ) (x : ℕ) → get_or (xs ++ x ∷ []) (length (xs ++ x ∷ []) - 1) 0 ≡ x
 last_of xs x = let at : length (xs ++ x ∷ []) - 1 ≡ length xs + 0 = omega (arith, but_last xs x) in rw at (get_or-append-add xs (x ∷ []) 0 0)
 
 mark_there : (text : List ℕ) (t : Token) → opens (mark_of text t) ≡ true → mark_of text t ≡ get_or text t.span.from 0

@@ -251,3 +251,10 @@ unbalanced_law text ts o h is = record {
 
 pub balanced_law : (text : List ℕ) (ts : List Token) → ExplainsScan text (Ok ts) → None ≡ unbalanced_at text [] ts → IsCut text 0 ts (length text) × IsBalanced text ts
 balanced_law text ts h is = (h.0, balanced_if_none text ts (sym is))
+
+ordered_few : (from to : ℕ) (ts : List Token) → IsOrdered from ts to → from + length ts ≤ to
+ordered_few from to [] o = omega arith
+ordered_few from to (t ∷ ts) o = let rest = ordered_few t.span.to to ts o.2 in omega (arith, o.0, o.1, rest)
+
+pub few_law : (text : List ℕ) (ts : List Token) → ExplainsScan text (Ok ts) → length ts ≤ length text
+few_law text ts h = let few = ordered_few 0 (length text) ts h.1 in omega (arith, few)

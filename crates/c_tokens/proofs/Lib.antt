@@ -12,3 +12,4 @@ pub mod PieceLemmas
 pub mod WordLemmas
 pub mod BalanceLemmas
 pub mod CutLemmas
+pub mod CloserLemmas

@@ -10,3 +10,4 @@ pub mod Spelling
 pub mod White
 pub mod Balance
 pub mod Cut
+pub mod Closers

@@ -8,7 +8,7 @@ use crate::token::{Token, TokenKind};
 use std::alloc::{AllocError, Global};
 
 /// The byte of a punctuator where it begins, and 0 for another token.
-fn mark_of(text: &[u8], token: &Token) -> u8
+pub fn mark_of(text: &[u8], token: &Token) -> u8
     ensures { result ≡ mark_of text.now token.now }
 {
     match token.kind {
@@ -17,13 +17,13 @@ fn mark_of(text: &[u8], token: &Token) -> u8
     }
 }
 
-fn opens(b: u8) -> bool
+pub fn opens(b: u8) -> bool
     ensures { result ≡ opens b }
 {
     matches!(b, b'(' | b'[' | b'{')
 }
 
-fn closes(b: u8) -> bool
+pub fn closes(b: u8) -> bool
     ensures { result ≡ closes b }
 {
     matches!(b, b')' | b']' | b'}')

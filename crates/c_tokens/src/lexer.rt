@@ -1,6 +1,6 @@
 //! From a text to its tokens.
 
-ghost use Rattle.std.specs.Prelude.{◌≡◌, ℕ, ◌<◌, length, IfOk};
+ghost use Rattle.std.specs.Prelude.{◌≡◌, ℕ, ◌<◌, ◌≤◌, length, IfOk};
 ghost use Rattle.c_tokens.specs.Cut.{Explains, ExplainsScan, IsOrdered};
 ghost use Rattle.c_tokens.specs.Tokens.{Gives, token, tokens_from, tokens_of};
 
@@ -60,6 +60,7 @@ pub fn tokens(alloc: Global, text: &[u8]) -> Result<Tokens, TokenEnd>
     ensures is { Gives (λ t. t.list) result (tokens_of text.now) }
     // The spans are in order, apart, not empty, and inside the text.
     ensures ordered { IfOk result (λ t. IsOrdered 0 t.list (length text.now)) }
+    ensures few { IfOk result (λ t. length t.list ≤ length text.now) }
     // Tokens are the longest there, between them is only white space, and brackets match; a fault is the first from the left.
     ensures explained { Explains text.now result }
 {

@@ -3,6 +3,7 @@
 
 mod brackets;
 mod bytes;
+mod closing;
 mod edits;
 mod ends;
 mod item;
@@ -13,6 +14,7 @@ mod punctuator;
 mod token;
 mod token_end;
 
+pub use closing::closers;
 pub use edits::splice;
 pub use lexer::tokens;
 pub use line_starts::LineStarts;

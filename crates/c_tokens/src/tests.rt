@@ -145,6 +145,29 @@ fn sixteen_mebibytes(rt: HostRuntime) -> Result<(), Fail> {
     Ok(())
 }
 
+#[test]
+fn closing_brackets(rt: HostRuntime) -> Result<(), Fail> {
+    let text = b"f(a[1], {'('}) ;";
+    let found = tokens(rt.alloc(), text)?;
+    let closing = closers(rt.alloc(), text, &found)?;
+    let want = [
+        None,
+        Some(10),
+        None,
+        Some(5),
+        None,
+        None,
+        None,
+        Some(9),
+        None,
+        None,
+        None,
+        None,
+    ];
+    assert_eq!(rt; closing.as_slice(), want.as_slice());
+    Ok(())
+}
+
 /// Offsets of `ab\n\ncd\n`, with their lines and columns.
 const PLACES: [(u32, (u32, u32)); 8] = [
     (0, (1, 1)),
