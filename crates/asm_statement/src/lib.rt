@@ -1,0 +1,5 @@
+//! The GNU asm statements of a preprocessed C file, with their parts (GCC manual, "Extended Asm", in this project's profile).
+#![tactic(auto)]
+
+mod class;
+mod source;
