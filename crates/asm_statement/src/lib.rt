@@ -1,5 +1,6 @@
 //! The GNU asm statements of a preprocessed C file, with their parts (GCC manual, "Extended Asm", in this project's profile).
 #![tactic(auto)]
 
+mod beginning;
 mod class;
 mod source;
