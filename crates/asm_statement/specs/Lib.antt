@@ -1,3 +1,4 @@
 pub mod Classes
 pub mod Source
 pub mod Beginnings
+pub mod Literals

@@ -3,4 +3,5 @@
 
 mod beginning;
 mod class;
+mod literal;
 mod source;
