@@ -3,5 +3,7 @@
 
 mod beginning;
 mod class;
+mod escape;
 mod literal;
 mod source;
+mod template_end;
