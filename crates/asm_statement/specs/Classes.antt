@@ -61,3 +61,33 @@ is_name Lead = true
 is_name Head = true
 is_name Name = true
 is_name _ = false
+
+abbrev pub is_open_paren : Class → Bool
+is_open_paren OpenParen = true
+is_open_paren _ = false
+
+abbrev pub is_close_paren : Class → Bool
+is_close_paren CloseParen = true
+is_close_paren _ = false
+
+abbrev pub is_open_bracket : Class → Bool
+is_open_bracket OpenBracket = true
+is_open_bracket _ = false
+
+abbrev pub is_close_bracket : Class → Bool
+is_close_bracket CloseBracket = true
+is_close_bracket _ = false
+
+abbrev pub is_colon : Class → Bool
+is_colon Colon = true
+is_colon _ = false
+
+abbrev pub is_comma : Class → Bool
+is_comma Comma = true
+is_comma _ = false
+
+-- a string literal, with a prefix only where that is asked for
+abbrev pub is_literal : Bool → Class → Bool
+is_literal prefixed Literal = true
+is_literal prefixed Prefixed = prefixed
+is_literal prefixed _ = false

@@ -4,3 +4,6 @@ pub mod Beginnings
 pub mod Literals
 pub mod Escapes
 pub mod Ends
+pub mod Operands
+pub mod Parts
+pub mod Statements

@@ -1,7 +1,7 @@
 //! What a token is to the grammar of asm statements.
 
 ghost use Rattle.std.specs.Prelude.{◌≡◌};
-ghost use Rattle.asm_statement.specs.Classes.{same, is_keyword, is_qualifier, is_goto, is_lead, is_head, name_class, mark_class, literal_class, is_name};
+ghost use Rattle.asm_statement.specs.Classes.{same, is_keyword, is_qualifier, is_goto, is_lead, is_head, name_class, mark_class, literal_class, is_name, is_open_paren, is_close_paren, is_open_bracket, is_close_bracket, is_colon, is_comma, is_literal};
 
 /// What a token is to the grammar of asm statements.
 #[derive(Clone, Copy)]
@@ -138,5 +138,52 @@ impl Class {
                 | Class::Head
                 | Class::Name
         )
+    }
+
+    pub fn is_open_paren(self) -> bool
+        ensures { result ≡ is_open_paren self }
+    {
+        matches!(self, Class::OpenParen)
+    }
+
+    pub fn is_close_paren(self) -> bool
+        ensures { result ≡ is_close_paren self }
+    {
+        matches!(self, Class::CloseParen)
+    }
+
+    pub fn is_open_bracket(self) -> bool
+        ensures { result ≡ is_open_bracket self }
+    {
+        matches!(self, Class::OpenBracket)
+    }
+
+    pub fn is_close_bracket(self) -> bool
+        ensures { result ≡ is_close_bracket self }
+    {
+        matches!(self, Class::CloseBracket)
+    }
+
+    pub fn is_colon(self) -> bool
+        ensures { result ≡ is_colon self }
+    {
+        matches!(self, Class::Colon)
+    }
+
+    pub fn is_comma(self) -> bool
+        ensures { result ≡ is_comma self }
+    {
+        matches!(self, Class::Comma)
+    }
+
+    /// Whether the token is a string literal; one with a prefix only where that is asked for.
+    pub fn is_literal(self, prefixed: bool) -> bool
+        ensures { result ≡ is_literal prefixed self }
+    {
+        match self {
+            Class::Literal => true,
+            Class::Prefixed => prefixed,
+            _ => false,
+        }
     }
 }

@@ -4,6 +4,10 @@
 mod beginning;
 mod class;
 mod escape;
+mod form_end;
+mod list;
 mod literal;
+mod operand;
+mod parts;
 mod source;
 mod template_end;
