@@ -91,3 +91,15 @@ abbrev pub is_literal : Bool → Class → Bool
 is_literal prefixed Literal = true
 is_literal prefixed Prefixed = prefixed
 is_literal prefixed _ = false
+
+-- a list may be empty: what stands there is a colon or the closing parenthesis
+abbrev pub ends_list : Class → Bool
+ends_list Colon = true
+ends_list CloseParen = true
+ends_list _ = false
+
+-- a word that may follow the keyword, `goto` only where that is asked for
+abbrev pub is_word : Bool → Class → Bool
+is_word goto Qualifier = true
+is_word goto Goto = goto
+is_word goto _ = false

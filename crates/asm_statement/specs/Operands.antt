@@ -5,6 +5,7 @@ use Rattle.c_tokens.specs.Closers.{closer_at}
 use Rattle.asm_core.specs.declared.statement.Quoted.{Quoted}
 use Rattle.asm_core.specs.declared.statement.Part.{Part}
 use Rattle.asm_statement.specs.declared.operand.Operand.{Operand}
+use Rattle.asm_statement.specs.declared.operand.Clobber.{Clobber}
 use Rattle.asm_statement.specs.declared.list.Operands.{Operands}
 use Rattle.asm_statement.specs.declared.list.Clobbers.{Clobbers}
 use Rattle.asm_statement.specs.Classes.{is_name, is_literal, is_open_paren, is_open_bracket, is_close_bracket, is_comma}
@@ -57,6 +58,13 @@ operands_from text ts until i (t ∷ rest) =
         else Some (record { list = x.part ∷ []; end = x.end })
     ]
 
+-- the clobber at the index: literals
+unfoldable pub clobber_at : List ℕ → List Token → ℕ → Option Clobber
+clobber_at text ts i =
+    if nat_lt i (literals_end_at false text ts i)
+    then Some (record { quoted = quoted_at text ts i (literals_end_at false text ts i); end = literals_end_at false text ts i })
+    else None
+
 abbrev pub with_clobber : Quoted → Option Clobbers → Option Clobbers
 with_clobber q None = None
 with_clobber q (Some r) = Some (record { list = q ∷ r.list; end = r.end })
@@ -66,8 +74,8 @@ unfoldable pub clobbers_from : List ℕ → List Token → ℕ → ℕ → List 
 clobbers_from text ts until i [] = None
 clobbers_from text ts until i (t ∷ rest) =
     if nat_lt i until then clobbers_from text ts until (i + 1) rest
-    else if nat_lt i (literals_end_at false text ts i)
-    then (if is_comma (class_at text ts (literals_end_at false text ts i))
-    then with_clobber (quoted_at text ts i (literals_end_at false text ts i)) (clobbers_from text ts (literals_end_at false text ts i + 1) (i + 1) rest)
-    else Some (record { list = quoted_at text ts i (literals_end_at false text ts i) ∷ []; end = literals_end_at false text ts i }))
-    else None
+    else elim (clobber_at text ts i) [
+      | None ↦ None
+      | Some x ↦ if is_comma (class_at text ts x.end) then with_clobber x.quoted (clobbers_from text ts (x.end + 1) (i + 1) rest)
+        else Some (record { list = x.quoted ∷ []; end = x.end })
+    ]

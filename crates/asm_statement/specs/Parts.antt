@@ -4,23 +4,15 @@ use Rattle.c_tokens.specs.declared.token.Token.{Token}
 use Rattle.asm_core.specs.declared.span.Span.{Span}
 use Rattle.asm_core.specs.declared.statement.Part.{Part}
 use Rattle.asm_core.specs.declared.statement.Parts.{Parts}
-use Rattle.asm_statement.specs.declared.class.Class.{Class}
-use Rattle.asm_statement.specs.declared.class.Class.TheVariants.{Colon, CloseParen}
 use Rattle.asm_statement.specs.declared.literal.Raw.{Raw}
 use Rattle.asm_statement.specs.declared.list.Operands.{Operands}
 use Rattle.asm_statement.specs.declared.list.Clobbers.{Clobbers}
 use Rattle.asm_statement.specs.declared.parts.Template.{Template}
-use Rattle.asm_statement.specs.Classes.{is_close_paren, is_colon}
+use Rattle.asm_statement.specs.Classes.{is_close_paren, is_colon, ends_list}
 use Rattle.asm_statement.specs.Source.{class_at, end_at, span_of}
 use Rattle.asm_statement.specs.Literals.{quoted}
 use Rattle.asm_statement.specs.Escapes.{template_of}
 use Rattle.asm_statement.specs.Operands.{literals_end_at, operands_from, clobbers_from}
-
--- a list may be empty: what stands there is a colon or the closing parenthesis
-abbrev pub ends_list : Class → Bool
-ends_list Colon = true
-ends_list CloseParen = true
-ends_list _ = false
 
 abbrev pub operands_at : List ℕ → List Token → ℕ → Option Operands
 operands_at text ts i = if ends_list (class_at text ts i) then Some (record { list = []; end = i }) else operands_from text ts i i (drop i ts)

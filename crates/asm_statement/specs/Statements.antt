@@ -1,5 +1,5 @@
 -- The asm statements of a text.
-use Rattle.std.specs.Prelude.{ℕ, Bool, true, false, List, [], ◌∷◌, ◌+◌, ◌&&◌, nat_lt, if◌then◌else◌, Option, Some, None, drop}
+use Rattle.std.specs.Prelude.{ℕ, Bool, true, false, List, [], ◌∷◌, ◌+◌, nat_lt, if◌then◌else◌, Option, Some, None, drop}
 use Rattle.c_tokens.specs.declared.token.Token.{Token}
 use Rattle.c_tokens.specs.Closers.{closer_at}
 use Rattle.asm_core.specs.declared.mark.Mark.{Mark}
@@ -8,19 +8,11 @@ use Rattle.asm_core.specs.declared.statement.Parts.{Parts}
 use Rattle.asm_core.specs.declared.statement.Body.{Body}
 use Rattle.asm_core.specs.declared.statement.Body.TheVariants as bodies
 use Rattle.asm_core.specs.declared.statement.Statement.{Statement}
-use Rattle.asm_statement.specs.declared.class.Class.{Class}
-use Rattle.asm_statement.specs.declared.class.Class.TheVariants.{Qualifier, Goto}
 use Rattle.asm_statement.specs.declared.beginning.Beginning.{Beginning}
-use Rattle.asm_statement.specs.Classes.{is_open_paren}
+use Rattle.asm_statement.specs.Classes.{is_open_paren, is_word}
 use Rattle.asm_statement.specs.Source.{class_of, class_at, start_at, span_of}
 use Rattle.asm_statement.specs.Beginnings.{beginnings_of}
 use Rattle.asm_statement.specs.Parts.{parts_at}
-
--- a word that may follow the keyword, `goto` only where that is asked for
-abbrev pub is_word : Bool → Class → Bool
-is_word goto Qualifier = true
-is_word goto Goto = goto
-is_word goto _ = false
 
 -- the index behind the words from the index i on
 unfoldable pub words_end : Bool → List ℕ → ℕ → List Token → ℕ

@@ -1,6 +1,6 @@
 //! Which tokens begin an asm statement.
 
-ghost use Rattle.std.specs.Prelude.{◌≡◌, IfOk, OnOk};
+ghost use Rattle.std.specs.Prelude.{◌≡◌, ◌<◌, length, IfOk, OnOk};
 ghost use Rattle.asm_statement.specs.Beginnings.{in_block, opened_after_head, opened_behind, closes_head, may_follow, begins, beginnings_of};
 
 use crate::class::Class;
@@ -22,7 +22,7 @@ pub struct Opened {
 #[derive(Clone, Copy)]
 pub struct Beginning {
     /// The index of its token.
-    pub at: usize,
+    pub at: u32,
     /// Whether it stands between braces.
     pub in_block: bool,
 }
@@ -113,6 +113,7 @@ fn begins(class: Class, before: Class, closed: bool) -> bool
 /// The keywords that begin a statement, in one pass.
 #[tactic(auto, using(crate::proofs::BeginningLemmas::beginning_steps))]
 pub fn beginnings(alloc: Global, text: &[u8], tokens: &[Token]) -> Result<Vec<Beginning>, Memory>
+    requires { length tokens.now < 4294967296 }
     ensures { IfOk result (λ list. list.items ≡ beginnings_of text.now tokens.now) }
 {
     let mut list = Vec::new(alloc);
@@ -129,7 +130,10 @@ pub fn beginnings(alloc: Global, text: &[u8], tokens: &[Token]) -> Result<Vec<Be
         if !found {
             continue;
         }
-        list.push(Beginning { at: i, in_block })?;
+        list.push(Beginning {
+            at: i as u32,
+            in_block,
+        })?;
     }
     Ok(list)
 }

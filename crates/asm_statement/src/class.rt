@@ -1,7 +1,7 @@
 //! What a token is to the grammar of asm statements.
 
 ghost use Rattle.std.specs.Prelude.{◌≡◌};
-ghost use Rattle.asm_statement.specs.Classes.{same, is_keyword, is_qualifier, is_goto, is_lead, is_head, name_class, mark_class, literal_class, is_name, is_open_paren, is_close_paren, is_open_bracket, is_close_bracket, is_colon, is_comma, is_literal};
+ghost use Rattle.asm_statement.specs.Classes.{same, is_keyword, is_qualifier, is_goto, is_lead, is_head, name_class, mark_class, literal_class, is_name, is_open_paren, is_close_paren, is_open_bracket, is_close_bracket, is_colon, is_comma, is_literal, ends_list, is_word};
 
 /// What a token is to the grammar of asm statements.
 #[derive(Clone, Copy)]
@@ -183,6 +183,24 @@ impl Class {
         match self {
             Class::Literal => true,
             Class::Prefixed => prefixed,
+            _ => false,
+        }
+    }
+
+    /// Whether a list of operands or clobbers ends before the token: at a colon or the closing parenthesis.
+    pub fn ends_list(self) -> bool
+        ensures { result ≡ ends_list self }
+    {
+        matches!(self, Class::Colon | Class::CloseParen)
+    }
+
+    /// Whether the token is a word that may follow the keyword, `goto` only where that is asked for.
+    pub fn is_word(self, goto: bool) -> bool
+        ensures { result ≡ is_word goto self }
+    {
+        match self {
+            Class::Qualifier => true,
+            Class::Goto => goto,
             _ => false,
         }
     }

@@ -10,4 +10,7 @@ mod literal;
 mod operand;
 mod parts;
 mod source;
+mod statement;
 mod template_end;
+
+pub use statement::statements;

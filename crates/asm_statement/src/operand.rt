@@ -1,7 +1,7 @@
-//! One operand of an asm statement.
+//! One operand or clobber of an asm statement.
 
 ghost use Rattle.std.specs.Prelude.{◌≡◌, ◌<◌, ◌≤◌, ℕ, length, drop, IfOk};
-ghost use Rattle.asm_statement.specs.Operands.{literals_end_at, constrained, operand_at};
+ghost use Rattle.asm_statement.specs.Operands.{literals_end_at, constrained, operand_at, clobber_at};
 ghost use Rattle.asm_statement.specs.Ends.{GivesForm};
 
 use crate::class::Class;
@@ -15,6 +15,13 @@ use std::alloc::Global;
 #[derive(Drop)]
 pub struct Operand {
     pub part: Part,
+    pub end: usize,
+}
+
+/// A clobber, and the index behind it.
+#[derive(Drop)]
+pub struct Clobber {
+    pub quoted: Quoted,
     pub end: usize,
 }
 
@@ -81,4 +88,18 @@ pub fn operand_at(alloc: Global, source: &Source<'_>, i: usize) -> Result<Operan
     }
     let name = name_at(alloc, source, i + 1)?;
     constrained(alloc, source, Some(name), i + 3)
+}
+
+/// The clobber at an index.
+#[tactic(auto, unfolding(crate::specs::Operands::clobber_at))]
+pub fn clobber_at(alloc: Global, source: &Source<'_>, i: usize) -> Result<Clobber, FormEnd>
+    ensures is { GivesForm result (clobber_at source.now.text.now source.now.tokens.now i) }
+    ensures further { IfOk result (λ x. i < x.end) }
+{
+    let end = literals_end(source, i, false);
+    if end == i {
+        return Err(FormEnd::OtherForm);
+    }
+    let quoted = quoted_at(alloc, source, i, end)?;
+    Ok(Clobber { quoted, end })
 }

@@ -40,6 +40,7 @@ pub fn class_of(text: &[u8], token: &Token) -> Class
 }
 
 /// A text, its tokens, and for each opening bracket among them the index of the token that closes it.
+#[derive(Drop)]
 pub struct Source<'a> {
     pub text: &'a [u8],
     pub tokens: &'a [Token],
