@@ -1,0 +1,9 @@
+pub mod Classes
+pub mod Source
+pub mod Beginnings
+pub mod Literals
+pub mod Escapes
+pub mod Ends
+pub mod Operands
+pub mod Parts
+pub mod Statements

@@ -1,0 +1,16 @@
+//! The GNU asm statements of a preprocessed C file, with their parts (GCC manual, "Extended Asm", in this project's profile).
+#![tactic(auto)]
+
+mod beginning;
+mod class;
+mod escape;
+mod form_end;
+mod list;
+mod literal;
+mod operand;
+mod parts;
+mod source;
+mod statement;
+mod template_end;
+
+pub use statement::statements;
