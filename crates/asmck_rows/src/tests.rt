@@ -256,7 +256,7 @@ fn files_and_words_are_told_apart(rt: HostRuntime) -> Result<(), Fail> {
         assert_eq!(rt; ending.code, 2);
     }
     for (bytes, printed, code) in [
-        (16_777_216, "a.c: not yet\n", 10),
+        (16_777_216, "", 0),
         (16_777_217, "a.c: too large\n", 7),
     ] {
         let blanks = vec![in alloc; b' '; bytes]?;

@@ -30,11 +30,11 @@ module _ (name text : List ℕ) (ss : List Statement) (i : ℕ) (before : List �
 
   -- a statement outside the tables adds its line
   pub after-outside : (s : Statement) (mark : Mark) → i < length ss → s ≡ get_or ss i s → s.body ≡ Body.Outside mark
-    → after (before ++ mark_line (place_text name (line_col_of text s.span.from)) mark.kind (line_col_of text mark.place)) (outside_lines name text (drop (i + 1) ss))
-    ≡ after before (outside_lines name text (drop i ss))
+      → after (before ++ mark_line (place_text name (line_col_of text s.span.from)) mark.kind (line_col_of text mark.place)) (outside_lines name text (drop (i + 1) ss))
+      ≡ after before (outside_lines name text (drop i ss))
   after-outside s mark lt is outside =
       sym (ap (after before) (here s lt is ∙ ap (λ (b : Body). joined (body_line name text s.span.from b) (outside_lines name text (drop (i + 1) ss))) outside)
-        ∙ after-joined before (mark_line (place_text name (line_col_of text s.span.from)) mark.kind (line_col_of text mark.place)) (outside_lines name text (drop (i + 1) ss)))
+      ∙ after-joined before (mark_line (place_text name (line_col_of text s.span.from)) mark.kind (line_col_of text mark.place)) (outside_lines name text (drop (i + 1) ss)))
 
   -- one with parts leaves no lines
   pub after-parts : (s : Statement) (parts : Parts) → i < length ss → s ≡ get_or ss i s → s.body ≡ Body.Parts parts → after before (outside_lines name text (drop i ss)) ≡ None

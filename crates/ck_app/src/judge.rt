@@ -73,7 +73,12 @@ fn first_page(alloc: Global, name: &str, text: &[u8]) -> Result<Option<Page>, Me
 }
 
 /// The page of a file with these statements, none of which is judged yet.
-fn statements_page(alloc: Global, name: &str, text: &[u8], statements: &[Statement]) -> Result<Page, Memory>
+fn statements_page(
+    alloc: Global,
+    name: &str,
+    text: &[u8],
+    statements: &[Statement],
+) -> Result<Page, Memory>
     requires { length text.now ≤ MAX_FILE_BYTES }
     ensures { IfOk result (λ page. IsPage page (statements_answer name.now text.now statements.now)) }
 {

@@ -140,15 +140,30 @@ fn append_finding(lines: &mut String, place: Place<'_>, finding: &Finding) -> Re
 }
 
 /// Appends the line of a statement at an offset that is outside the tables.
-pub fn append_mark(lines: &mut String, places: &Places<'_>, offset: u32, mark: Mark) -> Result<(), Memory>
+pub fn append_mark(
+    lines: &mut String,
+    places: &Places<'_>,
+    offset: u32,
+    mark: Mark,
+) -> Result<(), Memory>
     ensures { OnOk result (string_bytes lines.new ≡ string_bytes lines.old
         ++ mark_line (place_text places.now.0 (line_col_of places.now.1 offset)) mark.kind (line_col_of places.now.1 mark.place)) }
 {
     let Place { line, column, .. } = places.place(mark.place);
-    append_mark_line(lines, places.place(offset), mark.kind, LineColumn { line, column })
+    append_mark_line(
+        lines,
+        places.place(offset),
+        mark.kind,
+        LineColumn { line, column },
+    )
 }
 
-fn append_mark_line(lines: &mut String, place: Place<'_>, kind: MarkKind, at: LineColumn) -> Result<(), Memory>
+fn append_mark_line(
+    lines: &mut String,
+    place: Place<'_>,
+    kind: MarkKind,
+    at: LineColumn,
+) -> Result<(), Memory>
     ensures { OnOk result (string_bytes lines.new ≡ string_bytes lines.old ++ mark_line (place_text place.entry.name.now (place.entry.line, place.entry.column)) kind (at.line, at.column)) }
 {
     write!(lines, "{place}undecided {} at {at}\n", kind_name(kind))?;
