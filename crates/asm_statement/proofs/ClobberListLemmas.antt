@@ -97,4 +97,3 @@ clobbers_more text ts i x r before later whole lt is further there inside comma 
     let passed = skip text ts (x.end + 1) (x.end - i) (i + 1) (omega arith) (omega arith) in
     let step : clobbers_from text ts i i (drop i ts) ≡ with_clobber x.quoted rest = rw (clobbers-step text ts i lt (Some x) is, at_comma') (ap (with_clobber x.quoted) passed) in
     rw grown (sym (after-first before x.quoted rest) ∙ ap (after before) (sym step) ∙ so_far)
-

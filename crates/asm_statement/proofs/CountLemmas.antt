@@ -34,12 +34,12 @@ led_to text i bs items.BadByte = Err (ends.BadByte i)
 led_step : (text : List ℕ) (i until b : ℕ) (bs : List ℕ) → tokens_from text until i (b ∷ bs) ≡ (if nat_lt i until then tokens_from text until (i + 1) bs else led_to text i bs (item_at text i))
 unfolding tokens_from
 led_step text i until b bs = elim (item_at text i) as (λ v. (if nat_lt i until then tokens_from text until (i + 1) bs else elim v [
-      | items.White e ↦ tokens_from text e (i + 1) bs
-      | items.Piece kind e ↦ with_first (token kind i e) (tokens_from text e (i + 1) bs)
-      | items.OpenString ↦ Err (ends.OpenString i)
-      | items.OpenComment ↦ Err (ends.OpenComment i)
-      | items.BadByte ↦ Err (ends.BadByte i)
-    ]) ≡ (if nat_lt i until then tokens_from text until (i + 1) bs else led_to text i bs v)) [ items.White e ↦ refl | items.Piece kind e ↦ refl | items.OpenString ↦ refl | items.OpenComment ↦ refl | items.BadByte ↦ refl ]
+  | items.White e ↦ tokens_from text e (i + 1) bs
+  | items.Piece kind e ↦ with_first (token kind i e) (tokens_from text e (i + 1) bs)
+  | items.OpenString ↦ Err (ends.OpenString i)
+  | items.OpenComment ↦ Err (ends.OpenComment i)
+  | items.BadByte ↦ Err (ends.BadByte i)
+]) ≡ (if nat_lt i until then tokens_from text until (i + 1) bs else led_to text i bs v)) [ items.White e ↦ refl | items.Piece kind e ↦ refl | items.OpenString ↦ refl | items.OpenComment ↦ refl | items.BadByte ↦ refl ]
 
 count_led : (text : List ℕ) (i b : ℕ) (bs : List ℕ) (v : Item) → ((until : ℕ) → IsAtMost (length bs) (tokens_from text until (i + 1) bs)) → IsAtMost (length (b ∷ bs)) (led_to text i bs v)
 count_led text i b bs (items.White e) rest = wider (length bs) (length (b ∷ bs)) (tokens_from text e (i + 1) bs) (omega arith) (rest e)

@@ -38,9 +38,9 @@ grows base value (r ∷ rs) one =
 -- A number that is kept at 256 where it is greater stays so.
 capped : (base value : ℕ) (ds : List Raw) → 1 ≤ base → min (number_from base (min value 256) ds) 256 ≡ min (number_from base value ds) 256
 capped base value ds one = elim (cases_lt value 256) [
-    | inl small ↦ (let whole : min value 256 ≡ value = omega arith in rw whole refl)
-    | inr big ↦ (let low = grows base 256 ds one in let high = grows base value ds one in let whole : min value 256 ≡ 256 = omega arith in rw whole (omega (arith, low, high)))
-  ]
+  | inl small ↦ (let whole : min value 256 ≡ value = omega arith in rw whole refl)
+  | inr big ↦ (let low = grows base 256 ds one in let high = grows base value ds one in let whole : min value 256 ≡ 256 = omega arith in rw whole (omega (arith, low, high)))
+]
 
 number-step : (base value : ℕ) (ds : List Raw) (k : ℕ) (d : Raw) → 1 ≤ base → k < length ds
     → min (number_from base (min (value * base + digit_value (get_or ds k d).byte) 256) (drop (k + 1) ds)) 256 ≡ min (number_from base value (drop k ds)) 256

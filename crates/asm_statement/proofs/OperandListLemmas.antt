@@ -97,4 +97,3 @@ operands_more text ts i x r before later whole lt is further there inside comma 
     let passed = skip text ts (x.end + 1) (x.end - i) (i + 1) (omega arith) (omega arith) in
     let step : operands_from text ts i i (drop i ts) ≡ with_operand x.part rest = rw (operands-step text ts i lt (Some x) is, at_comma') (ap (with_operand x.part) passed) in
     rw grown (sym (after-first before x.part rest) ∙ ap (after before) (sym step) ∙ so_far)
-

@@ -55,7 +55,7 @@ operands_from text ts until i (t ∷ rest) =
     else elim (operand_at text ts i) [
       | None ↦ None
       | Some x ↦ if is_comma (class_at text ts x.end) then with_operand x.part (operands_from text ts (x.end + 1) (i + 1) rest)
-        else Some (record { list = x.part ∷ []; end = x.end })
+          else Some (record { list = x.part ∷ []; end = x.end })
     ]
 
 -- the clobber at the index: literals
@@ -77,5 +77,5 @@ clobbers_from text ts until i (t ∷ rest) =
     else elim (clobber_at text ts i) [
       | None ↦ None
       | Some x ↦ if is_comma (class_at text ts x.end) then with_clobber x.quoted (clobbers_from text ts (x.end + 1) (i + 1) rest)
-        else Some (record { list = x.quoted ∷ []; end = x.end })
+          else Some (record { list = x.quoted ∷ []; end = x.end })
     ]
