@@ -14,3 +14,6 @@ mod statement;
 mod template_end;
 
 pub use statement::statements;
+
+#[cfg(test)]
+mod tests;
