@@ -13,7 +13,8 @@ const MAX_LINES: usize = 100;
 ///
 /// It has 1 to 100 lines, joined by `; `, each `movl S,%0` or `addl S,%0` with S `%0`, `%1` or `$N` and N from 0 to
 /// 2147483647. Its operands are `"=r"` and `"r"`, `"+r"` and `"r"`, or the input `"r"` alone, and its one clobber, if any,
-/// is `cc`. A first line sets an output that is written alone, and no later line reads `%1`.
+/// is `cc`. Where the output is written alone, the first line is a move that does not read it. Only a first line may read
+/// `%1`, and none where there is no output.
 pub fn first_form(alloc: Global, parts: &Parts) -> Result<Option<Items<Sym>>, Memory>
     ensures { IfOk result (λ lines. lines ≡ first_form_of parts.now) }
 {
