@@ -255,10 +255,7 @@ fn files_and_words_are_told_apart(rt: HostRuntime) -> Result<(), Fail> {
         assert_eq!(rt; ending.printed.as_slice(), USAGE.as_bytes());
         assert_eq!(rt; ending.code, 2);
     }
-    for (bytes, printed, code) in [
-        (16_777_216, "", 0),
-        (16_777_217, "a.c: too large\n", 7),
-    ] {
+    for (bytes, printed, code) in [(16_777_216, "", 0), (16_777_217, "a.c: too large\n", 7)] {
         let blanks = vec![in alloc; b' '; bytes]?;
         let ending = run_with(alloc, &["check", "a.c"], blanks.as_slice(), &NOTHING)?;
         assert_eq!(rt; ending.printed.as_slice(), printed.as_bytes(), "{bytes}");
