@@ -1,19 +1,16 @@
 -- One clobber of several.
-use Rattle.std.proofs.Common.{◌≡◌, ℕ, zero, suc, ◌+◌, ◌-◌, ◌<◌, ◌≤◌, Bool, cond, if◌then◌else◌, true, false, List, [], ◌∷◌, ◌++◌, drop, length, get_or, refl, ◌∙◌, sym, ap, arith, nat_lt, lt-ltb, append_assoc, Option, Some, None}
-use Rattle.std.proofs.lemmas.List.{drop_more, drop_all, append-nil}
+use Rattle.std.proofs.Common.{◌≡◌, ℕ, zero, suc, ◌+◌, ◌-◌, ◌<◌, ◌≤◌, Bool, if◌then◌else◌, true, false, List, [], ◌∷◌, ◌++◌, drop, length, refl, ◌∙◌, sym, ap, arith, nat_lt, lt-ltb, append_assoc, Option, Some, None}
+use Rattle.std.proofs.lemmas.List.{drop_more, drop_all}
 use Rattle.std.proofs.lemmas.Bool.{le-ltb}
 use Rattle.c_tokens.specs.declared.token.Token.{Token}
 use Rattle.c_tokens.specs.declared.token.TokenKind.TheVariants.{Name}
 use Rattle.asm_core.specs.declared.statement.Quoted.{Quoted}
-use Rattle.asm_core.specs.declared.statement.Part.{Part}
 use Rattle.asm_statement.specs.declared.class.Class.{Class}
 use Rattle.asm_statement.specs.declared.class.Class.TheVariants.{Missing}
 use Rattle.asm_statement.specs.declared.operand.Clobber.{Clobber}
-use Rattle.asm_statement.specs.declared.list.Operands.{Operands}
 use Rattle.asm_statement.specs.declared.list.Clobbers.{Clobbers}
 use Rattle.asm_statement.specs.Classes.{is_comma}
 use Rattle.asm_statement.specs.Source.{class_at}
-use Rattle.asm_statement.specs.Literals.{quoted_at}
 use Rattle.asm_statement.specs.Operands.{clobber_at, with_clobber, clobbers_from}
 
 abbrev no_token : Token

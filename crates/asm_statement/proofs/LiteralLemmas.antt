@@ -3,7 +3,6 @@ use Rattle.std.proofs.Common.{◌≡◌, ℕ, ◌+◌, ◌<◌, ◌≤◌, Bool,
 use Rattle.std.proofs.lemmas.List.{drop_more, drop_all, append-nil}
 use Rattle.std.proofs.lemmas.Bool.{le-ltb}
 use Rattle.c_tokens.specs.declared.token.Token.{Token}
-use Rattle.asm_statement.specs.declared.literal.Raw.{Raw}
 use Rattle.asm_statement.specs.Literals.{is_splice, raws_from, raws_in, raws_of}
 
 next_byte : (text : List ℕ) (i : ℕ) → get_or (drop (i + 1) text) 0 0 ≡ get_or text (i + 1) 0

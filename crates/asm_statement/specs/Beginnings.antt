@@ -1,5 +1,5 @@
 -- Which tokens begin an asm statement, by what stands before them.
-use Rattle.std.specs.Prelude.{ℕ, Bool, true, false, List, [], ◌∷◌, ◌++◌, ◌+◌, ◌-◌, ◌&&◌, Option, Some, None, length, take, slice_get}
+use Rattle.std.specs.Prelude.{ℕ, Bool, true, false, List, [], ◌∷◌, ◌++◌, ◌+◌, ◌-◌, Option, Some, None, length, take, slice_get}
 use Rattle.c_tokens.specs.declared.token.Token.{Token}
 use Rattle.asm_statement.specs.declared.class.Class.{Class}
 use Rattle.asm_statement.specs.declared.class.Class.TheVariants.{Missing, Keyword, Lead, Head, OpenParen, CloseParen, OpenBracket, CloseBracket, OpenBrace, CloseBrace, Semicolon, Colon}

@@ -2,7 +2,7 @@
 use Rattle.std.specs.Prelude.{ℕ, Bool, true, false, List, ◌==◌, ◌||◌, nat_eq, if◌then◌else◌, codes}
 use Rattle.std.specs.Cmp.Lexicographic.{pointwise}
 use Rattle.asm_statement.specs.declared.class.Class.{Class}
-use Rattle.asm_statement.specs.declared.class.Class.TheVariants.{Missing, Keyword, Qualifier, Goto, Lead, Head, Name, Literal, Prefixed, OpenParen, CloseParen, OpenBracket, CloseBracket, OpenBrace, CloseBrace, Semicolon, Colon, Comma, Other}
+use Rattle.asm_statement.specs.declared.class.Class.TheVariants.{Keyword, Qualifier, Goto, Lead, Head, Name, Literal, Prefixed, OpenParen, CloseParen, OpenBracket, CloseBracket, OpenBrace, CloseBrace, Semicolon, Colon, Comma, Other}
 
 abbrev pub same : List ℕ → List ℕ → Bool
 same name word = pointwise nat_eq name word

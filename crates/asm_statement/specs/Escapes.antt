@@ -1,5 +1,5 @@
 -- The bytes that a template's literals stand for (C11 6.4.4.4, 6.4.5; `\e` is GCC's).
-use Rattle.std.specs.Prelude.{ℕ, Bool, true, false, List, [], ◌∷◌, ◌++◌, ◌+◌, ◌-◌, ◌*◌, ◌==◌, ◌||◌, ◌&&◌, nat_lt, nat_le, if◌then◌else◌, Option, Some, None, Result, Ok, Err, drop, slice_get, slice_index, slice_range}
+use Rattle.std.specs.Prelude.{ℕ, Bool, true, false, List, [], ◌∷◌, ◌++◌, ◌+◌, ◌-◌, ◌*◌, ◌==◌, ◌||◌, ◌&&◌, nat_lt, nat_le, if◌then◌else◌, Option, Some, None, Result, Ok, Err, drop, slice_get, slice_range}
 use Rattle.c_tokens.specs.declared.token.Token.{Token}
 use Rattle.asm_statement.specs.declared.literal.Raw.{Raw}
 use Rattle.asm_statement.specs.declared.escape.Read.{Read}

@@ -4,7 +4,7 @@ use Rattle.c_tokens.specs.declared.token.Token.{Token}
 use Rattle.asm_core.specs.declared.span.Span.{Span}
 use Rattle.asm_core.specs.declared.statement.Quoted.{Quoted}
 use Rattle.asm_statement.specs.declared.literal.Raw.{Raw}
-use Rattle.asm_statement.specs.Source.{start_at, span_of}
+use Rattle.asm_statement.specs.Source.{span_of}
 
 -- A backslash directly before a newline and that newline give no byte (C11 5.1.1.2). In a literal no other newline stands.
 abbrev pub is_splice : ℕ → ℕ → Bool

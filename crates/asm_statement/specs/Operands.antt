@@ -1,5 +1,5 @@
 -- The lists behind the colons of an asm statement (GCC manual, "Extended Asm": OutputOperands, InputOperands, Clobbers).
-use Rattle.std.specs.Prelude.{ℕ, Bool, true, false, List, [], ◌∷◌, ◌+◌, ◌-◌, ◌&&◌, nat_lt, if◌then◌else◌, Option, Some, None, drop}
+use Rattle.std.specs.Prelude.{ℕ, Bool, false, List, [], ◌∷◌, ◌+◌, ◌-◌, ◌&&◌, nat_lt, if◌then◌else◌, Option, Some, None, drop}
 use Rattle.c_tokens.specs.declared.token.Token.{Token}
 use Rattle.c_tokens.specs.Closers.{closer_at}
 use Rattle.asm_core.specs.declared.statement.Quoted.{Quoted}

@@ -1,5 +1,5 @@
 -- What stands between the parentheses of an asm statement (GCC manual, "Extended Asm").
-use Rattle.std.specs.Prelude.{ℕ, Bool, true, false, List, [], ◌∷◌, ◌+◌, ◌-◌, ◌==◌, ◌&&◌, nat_lt, nat_le, if◌then◌else◌, Option, Some, None, Result, Ok, Err, length, drop, slice_index, slice_range, count_by}
+use Rattle.std.specs.Prelude.{ℕ, Bool, true, false, List, [], ◌+◌, ◌-◌, ◌==◌, ◌&&◌, nat_lt, nat_le, if◌then◌else◌, Option, Some, None, Result, Ok, Err, length, drop, slice_index, slice_range, count_by}
 use Rattle.c_tokens.specs.declared.token.Token.{Token}
 use Rattle.asm_core.specs.declared.span.Span.{Span}
 use Rattle.asm_core.specs.declared.statement.Part.{Part}

@@ -1,5 +1,5 @@
 -- Tokens by their index. Past the last there is none.
-use Rattle.std.specs.Prelude.{ℕ, List, Option, Some, None, slice_get, slice_index, slice_range}
+use Rattle.std.specs.Prelude.{ℕ, List, Some, None, slice_get, slice_index, slice_range}
 use Rattle.c_tokens.specs.declared.token.Token.{Token}
 use Rattle.c_tokens.specs.declared.token.TokenKind.TheVariants as kinds
 use Rattle.asm_core.specs.declared.span.Span.{Span}

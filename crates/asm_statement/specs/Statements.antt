@@ -2,7 +2,6 @@
 use Rattle.std.specs.Prelude.{ℕ, Bool, true, false, List, [], ◌∷◌, ◌+◌, nat_lt, if◌then◌else◌, Option, Some, None, drop}
 use Rattle.c_tokens.specs.declared.token.Token.{Token}
 use Rattle.c_tokens.specs.Closers.{closer_at}
-use Rattle.asm_core.specs.declared.mark.Mark.{Mark}
 use Rattle.asm_core.specs.declared.mark.MarkKind.TheVariants as marks
 use Rattle.asm_core.specs.declared.statement.Parts.{Parts}
 use Rattle.asm_core.specs.declared.statement.Body.{Body}

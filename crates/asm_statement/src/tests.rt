@@ -144,13 +144,19 @@ const FORMS: [(&[u8], &str); 71] = [
     (b"{asm(:);}", "1-7 outside 1;"),
     (b"{asm(\"x\"[1]:);}", "1-13 outside 1;"),
     // operands
-    (b"{asm(\"\":\"=r\"(x):\"r\"(y));}", "1-23 o=r 13-14 ir 20-21 c2 l22;"),
+    (
+        b"{asm(\"\":\"=r\"(x):\"r\"(y));}",
+        "1-23 o=r 13-14 ir 20-21 c2 l22;",
+    ),
     (b"{asm(\"\":[a]\"=r\"(x));}", "1-19 oa:=r 16-17 c1 l18;"),
     (b"{asm(\"\":[asm]\"=r\"(x));}", "1-21 oasm:=r 18-19 c1 l20;"),
     (b"{asm(\"\":[1]\"=r\"(x));}", "1-19 outside 1;"),
     (b"{asm(\"\":[a b]\"=r\"(x));}", "1-21 outside 1;"),
     (b"{asm(\"\":\"=\" \"r\"(x));}", "1-19 o=r 16-17 c1 l18;"),
-    (b"{asm(\"\":\"=r\"(x),\"=m\"(y));}", "1-24 o=r 13-14 o=m 21-22 c1 l23;"),
+    (
+        b"{asm(\"\":\"=r\"(x),\"=m\"(y));}",
+        "1-24 o=r 13-14 o=m 21-22 c1 l23;",
+    ),
     (b"{asm(\"\"::\"r\"(f(a,b)[1] ));}", "1-25 ir 13-22 c2 l24;"),
     (b"{asm(\"\":\"=r\"());}", "1-15 outside 1;"),
     (b"{asm(\"\":\"=r\");}", "1-13 outside 1;"),
@@ -161,16 +167,28 @@ const FORMS: [(&[u8], &str); 71] = [
     (b"{asm(\"\":\"+r\"(x)/**/ ) ;}", "1-21 o+r 13-14 c1 l15;"),
     // clobbers
     (b"{asm(\"\":::\"a\",\"b\" \"c\");}", "1-22 ka kbc c3 l21;"),
-    (b"{asm(\"\"::\"r\"(x):\"cc\");}", "1-21 ir 13-14 kcc c3 l20;"),
+    (
+        b"{asm(\"\"::\"r\"(x):\"cc\");}",
+        "1-21 ir 13-14 kcc c3 l20;",
+    ),
     (b"{asm(\"\":::\"a\",);}", "1-15 outside 1;"),
     (b"{asm(\"\":::x);}", "1-12 outside 1;"),
     (b"{asm(\"\":::L\"a\");}", "1-15 outside 1;"),
     (b"{asm(\"\":::\"a\"(x));}", "1-17 outside 1;"),
     // a statement inside another one
-    (b"{asm(\"\":\"=r\"(({asm(\"\":);1;})));}", "1-30 outside 1;15-23 c1 l22;"),
-    (b"{asm(({asm(\"\":);1;})\"\":);}", "1-24 outside 1;7-15 c1 l14;"),
+    (
+        b"{asm(\"\":\"=r\"(({asm(\"\":);1;})));}",
+        "1-30 outside 1;15-23 c1 l22;",
+    ),
+    (
+        b"{asm(({asm(\"\":);1;})\"\":);}",
+        "1-24 outside 1;7-15 c1 l14;",
+    ),
     // a label inside a statement is none
-    (b"{asm(\"\"::\"r\"(({int y asm(\"eax\");1;})));}", "1-38 ir 13-36 c2 l37;"),
+    (
+        b"{asm(\"\"::\"r\"(({int y asm(\"eax\");1;})));}",
+        "1-38 ir 13-36 c2 l37;",
+    ),
     (b"{asm (\"\" \"\\n\" \"\"\n:\n: )\n;}", "1-22 c2 l20;"),
 ];
 
@@ -196,7 +214,10 @@ const BYTES: [(&[u8], &str); 33] = [
     (b"{asm(\"\\x0041g\":);}", "1-16 \"5-14 65@6 103@12 c1 l15;"),
     (b"{asm(\"\\xfF\":);}", "1-13 \"5-11 255@6 c1 l12;"),
     (b"{asm(\"\\x100\":);}", "1-14 \"5-12 c1 l13 bad 6;"),
-    (b"{asm(\"\\x10000000000000000\":);}", "1-28 \"5-26 c1 l27 bad 6;"),
+    (
+        b"{asm(\"\\x10000000000000000\":);}",
+        "1-28 \"5-26 c1 l27 bad 6;",
+    ),
     (b"{asm(\"\\x\":);}", "1-11 \"5-9 c1 l10 bad 6;"),
     (b"{asm(\"\\xg\":);}", "1-12 \"5-10 c1 l11 bad 6;"),
     // no escape
@@ -211,10 +232,7 @@ const BYTES: [(&[u8], &str); 33] = [
     (b"{asm(\"a\\\nb\":);}", "1-13 \"5-11 97@6 98@9 c1 l12;"),
     (b"{asm(\"\\1\\\n2\":);}", "1-14 \"5-12 10@6 c1 l13;"),
     // adjacent literals: an escape ends with its literal
-    (
-        b"{asm(\"\\x4\" \"1\":);}",
-        "1-16 \"5-14 4@6 49@12 c1 l15;",
-    ),
+    (b"{asm(\"\\x4\" \"1\":);}", "1-16 \"5-14 4@6 49@12 c1 l15;"),
     (
         b"{asm(\"a\" /**/\n\"b\":);}",
         "1-19 \"5-17 97@6 98@15 c1 l18;",
@@ -240,7 +258,10 @@ const BYTES: [(&[u8], &str); 33] = [
         b"{asm(\"\":::\"c\" \"\\143\");}",
         "1-21 \"5-7 \"10-20 99@11 92@15 49@16 52@17 51@18 c3 l20;",
     ),
-    (b"{asm(\"\":::\"\xff\");}", "1-14 \"5-7 \"10-13 255@11 c3 l13;"),
+    (
+        b"{asm(\"\":::\"\xff\");}",
+        "1-14 \"5-7 \"10-13 255@11 c3 l13;",
+    ),
 ];
 
 #[test]
@@ -285,7 +306,11 @@ fn operand_counts(rt: HostRuntime) -> Result<(), Fail> {
     for (outputs, inputs, few) in COUNTS {
         let text = with_operands(rt.alloc(), outputs, inputs)?;
         let got = told(&rt, rt.alloc(), text.as_bytes(), false)?;
-        assert_eq!(rt; !got.as_str().contains("outside"), few, "{outputs} outputs, {inputs} inputs");
+        assert_eq!(rt;
+            !got.as_str().contains("outside"),
+            few,
+            "{outputs} outputs, {inputs} inputs"
+        );
     }
     Ok(())
 }

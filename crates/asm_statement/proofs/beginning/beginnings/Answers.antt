@@ -1,4 +1,4 @@
-use Rattle.std.proofs.Common.{◌∙◌, sym, ap, get_or}
+use Rattle.std.proofs.Common.{◌∙◌, sym, ap}
 use Rattle.c_tokens.specs.declared.token.TokenKind.TheVariants.{Name}
 use Rattle.asm_statement.specs.declared.beginning.Opened.{Opened}
 use Rattle.asm_statement.specs.declared.beginning.Beginning.{Beginning}

@@ -1,5 +1,4 @@
-use Rattle.std.proofs.Common.{◌∙◌, ap, arith, min, ◌+◌, ◌*◌}
-use Rattle.std.specs.Prelude.{ℕ}
+use Rattle.std.proofs.Common.{◌∙◌, arith, min}
 use Rattle.asm_statement.specs.Escapes.{number_from}
 use Rattle.asm_statement.proofs.EscapeLemmas.{number_one}
 use Rattle.asm_statement.proofs.escape.number.Goals as goal

@@ -1,4 +1,4 @@
-use Rattle.std.proofs.Common.{◌∙◌, sym, drop, not}
+use Rattle.std.proofs.Common.{sym, drop}
 use Rattle.asm_statement.specs.Operands.{clobbers_from}
 use Rattle.asm_statement.proofs.ClobberListLemmas.{clobbers_last, clobbers_more}
 use Rattle.asm_statement.proofs.list.clobbers_from.Goals as goal

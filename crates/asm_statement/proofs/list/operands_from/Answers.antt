@@ -1,4 +1,4 @@
-use Rattle.std.proofs.Common.{◌∙◌, sym, drop, not}
+use Rattle.std.proofs.Common.{sym, drop}
 use Rattle.asm_statement.specs.Operands.{operands_from}
 use Rattle.asm_statement.proofs.OperandListLemmas.{operands_last, operands_more}
 use Rattle.asm_statement.proofs.list.operands_from.Goals as goal
