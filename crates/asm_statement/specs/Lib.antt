@@ -2,7 +2,7 @@ pub mod Classes
 pub mod Source
 pub mod Beginnings
 pub mod Literals
-pub mod Escapes
+pub mod Templates
 pub mod Ends
 pub mod Operands
 pub mod Parts

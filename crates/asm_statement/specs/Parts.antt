@@ -4,14 +4,14 @@ use Rattle.c_tokens.specs.declared.token.Token.{Token}
 use Rattle.asm_core.specs.declared.span.Span.{Span}
 use Rattle.asm_core.specs.declared.statement.Part.{Part}
 use Rattle.asm_core.specs.declared.statement.Parts.{Parts}
-use Rattle.asm_statement.specs.declared.literal.Raw.{Raw}
+use Rattle.c_literals.specs.declared.raw.Raw.{Raw}
 use Rattle.asm_statement.specs.declared.list.Operands.{Operands}
 use Rattle.asm_statement.specs.declared.list.Clobbers.{Clobbers}
 use Rattle.asm_statement.specs.declared.parts.Template.{Template}
 use Rattle.asm_statement.specs.Classes.{is_close_paren, is_colon, ends_list}
 use Rattle.asm_statement.specs.Source.{class_at, end_at, span_of}
 use Rattle.asm_statement.specs.Literals.{quoted}
-use Rattle.asm_statement.specs.Escapes.{template_of}
+use Rattle.asm_statement.specs.Templates.{template_of}
 use Rattle.asm_statement.specs.Operands.{literals_end_at, operands_from, clobbers_from}
 
 abbrev pub operands_at : List ℕ → List Token → ℕ → Option Operands

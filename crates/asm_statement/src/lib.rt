@@ -3,7 +3,6 @@
 
 mod beginning;
 mod class;
-mod escape;
 mod form_end;
 mod list;
 mod literal;
@@ -11,7 +10,7 @@ mod operand;
 mod parts;
 mod source;
 mod statement;
-mod template_end;
+mod template;
 
 pub use statement::statements;
 

@@ -1,57 +1,13 @@
-//! The bytes of string literals and names.
+//! The bytes of string literals and names, taken as they stand.
 
 ghost use Rattle.std.specs.Prelude.{◌≡◌, ℕ, ◌+◌, ◌-◌, ◌<◌, ◌≤◌, length, slice_range, map, IfOk};
-ghost use Rattle.asm_statement.specs.Literals.{is_splice, raws_between, raws_in, raws_of, quoted, quoted_at, name_at};
+ghost use Rattle.asm_statement.specs.Literals.{raws_of, quoted, quoted_at, name_at};
 
-use crate::source::{Source, byte_at};
+use crate::source::Source;
 use asm_core::{Items, Memory, Quoted, Span};
+use c_literals::{Raw, raws_between, raws_in};
 use c_tokens::Token;
 use std::alloc::{AllocError, Global};
-
-/// A byte, and the offset in the file at which its source begins.
-#[derive(Clone, Copy)]
-pub struct Raw {
-    pub byte: u8,
-    pub at: u32,
-}
-
-/// Whether the byte belongs to a backslash and newline, which give no byte.
-fn is_splice(b: u8, next: u8) -> bool
-    ensures { result ≡ is_splice b next }
-{
-    b == b'\n' || (b == b'\\' && next == b'\n')
-}
-
-/// The bytes of the text from one offset up to another, but for spliced lines.
-#[tactic(auto, using(crate::proofs::LiteralLemmas::raw_steps))]
-fn raws_between(alloc: Global, text: &[u8], from: usize, to: u32) -> Result<Vec<Raw>, AllocError>
-    ensures { IfOk result (λ raws. raws.items ≡ raws_between text.now from to) }
-{
-    let mut raws = Vec::new(alloc);
-    let mut i = from;
-    while i < text.len() && i < to as usize {
-        let byte = text[i];
-        let at = i as u32;
-        i += 1;
-        if is_splice(byte, byte_at(text, i)) {
-            continue;
-        }
-        raws.push(Raw { byte, at })?;
-    }
-    Ok(raws)
-}
-
-/// The bytes between the quotes of a literal that has no prefix.
-pub fn raws_in(alloc: Global, text: &[u8], token: &Token) -> Result<Vec<Raw>, AllocError>
-    ensures { IfOk result (λ raws. raws.items ≡ raws_in text.now token.now) }
-{
-    raws_between(
-        alloc,
-        text,
-        token.span.from as usize + 1,
-        token.span.to.saturating_sub(1),
-    )
-}
 
 /// The bytes of adjacent literals.
 #[tactic(auto, using(crate::proofs::LiteralLemmas::literal_steps))]

@@ -4,14 +4,14 @@ ghost use Rattle.std.specs.Prelude.{◌≡◌, ◌+◌, ◌<◌, ◌≤◌, leng
 ghost use Rattle.asm_statement.specs.Parts.{template_at, is_in_out, operand_count, parts_at};
 ghost use Rattle.asm_statement.specs.Ends.{GivesForm};
 
-use crate::escape::template;
 use crate::form_end::FormEnd;
 use crate::list::{clobber_section, operand_section};
 use crate::literal::quoted;
 use crate::operand::literals_end;
 use crate::source::Source;
-use crate::template_end::TemplateEnd;
+use crate::template::template;
 use asm_core::{Memory, Part, Parts, Quoted};
+use c_literals::LiteralEnd;
 use std::alloc::Global;
 
 /// The most operands that a statement may have, those that are both read and written counted twice.
@@ -41,11 +41,11 @@ fn template_at(
             quoted: quoted(alloc, &raws, span)?,
             bad: None,
         }),
-        Err(TemplateEnd::Bad(offset)) => Ok(Template {
+        Err(LiteralEnd::Bad(offset)) => Ok(Template {
             quoted: quoted(alloc, &[], span)?,
             bad: Some(offset),
         }),
-        Err(TemplateEnd::Memory) => Err(Memory),
+        Err(LiteralEnd::Memory) => Err(Memory),
     }
 }
 

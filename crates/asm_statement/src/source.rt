@@ -7,15 +7,7 @@ ghost use Rattle.asm_statement.specs.Source.{class_of, class_at, start_at, end_a
 
 use crate::class::{Class, literal_class, mark_class, name_class};
 use asm_core::Span;
-use c_tokens::{Token, TokenKind};
-
-/// The byte at `i`, or 0 past the end of the text.
-pub fn byte_at(text: &[u8], i: usize) -> u8
-    ensures value { result ≡ slice_index text.now i }
-    ensures inside { 0 < result → i < length text.now }
-{
-    if i < text.len() { text[i] } else { 0 }
-}
+use c_tokens::{Token, TokenKind, byte_at};
 
 /// The bytes of the text between two offsets.
 fn between(text: &[u8], from: usize, to: usize) -> &[u8]

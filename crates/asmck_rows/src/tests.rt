@@ -11,7 +11,7 @@ struct Row {
     code: u8,
 }
 
-static JUDGED: [Row; 11] = [
+static JUDGED: [Row; 15] = [
     Row {
         statement: "__asm__(\"movl %1,%0\":\"=r\"(y):\"r\"(x))",
         printed: "a.c:1:20: ok\n",
@@ -67,10 +67,30 @@ static JUDGED: [Row; 11] = [
         printed: "a.c:1:20: ok\n",
         code: 0,
     },
+    Row {
+        statement: "__asm__ ( \"movl %1,%0\" : \"=r\" (y) : \"r\" (x) )",
+        printed: "a.c:1:20: ok\n",
+        code: 0,
+    },
+    Row {
+        statement: "__asm__(\"movl %1,%0\":[to]\"=r\"(y):[from]\"r\"(x))",
+        printed: "a.c:1:20: ok\n",
+        code: 0,
+    },
+    Row {
+        statement: "__asm__(\"movl %1,%0\":[to]\"=r\"(y):\"r\"(x+1))",
+        printed: "a.c:1:20: ok\n",
+        code: 0,
+    },
+    Row {
+        statement: "__asm__(\"movl %1,%0\":\"=r\"(y):\"r\"(&x))",
+        printed: "a.c:1:20: ok\n",
+        code: 0,
+    },
 ];
 
 // Statements of other forms.
-static NOT_YET: [&str; 14] = [
+static NOT_YET: [&str; 16] = [
     "__asm__(\"xorl %%eax,%%eax; movl %%eax,%0\":\"=r\"(y))",
     "__asm__(\"movl $2147483648,%0\":\"=r\"(y):\"r\"(x))",
     "__asm__(\"movl $01,%0\":\"=r\"(y):\"r\"(x))",
@@ -84,7 +104,9 @@ static NOT_YET: [&str; 14] = [
     "__asm__(\"movl %1, %0\":\"=r\"(y):\"r\"(x))",
     "__asm__(\"\":\"=r\"(y):\"r\"(x))",
     "__asm__(\"movl %1,%0\":\"=r\"(y):\"r\"(x):\"memory\")",
-    "__asm__(\"movl %1,%0\" :\"=r\"(y):\"r\"(x))",
+    "__asm__(\"movl %1\" \",%0\":\"=r\"(y):\"r\"(x))",
+    "__asm__(\"movl %1,%0\":\"=\" \"r\"(y):\"r\"(x))",
+    "__asm__(\"movl %1,%0\":[x]\"=r\"(y):[x]\"r\"(x))",
 ];
 
 // Whole files: no text of C tokens, without a statement, with statements outside the tables.
@@ -151,6 +173,55 @@ static FILES: [Row; 13] = [
     },
     Row {
         statement: "int f(int x,int y){__asm__(\"movl %1,%0\":\"=r\"(y):\"r\"(x));return y;}\n\n",
+        printed: "a.c:1:20: ok\n",
+        code: 0,
+    },
+];
+
+// Whole files whose statements are judged by what their operands are.
+static OPERANDS: [Row; 9] = [
+    Row {
+        statement: "typedef struct{int a;unsigned b;}t;void h(t*p){__asm__(\"movl %1,%0\":\"=r\"(p->b):\"r\"(p->a));}",
+        printed: "a.c:1:48: ok\n",
+        code: 0,
+    },
+    Row {
+        statement: "typedef struct{short a;unsigned b;}t;void h(t*p){__asm__(\"movl %1,%0\":\"=r\"(p->b):\"r\"(p->a));}",
+        printed: "a.c: not yet\n",
+        code: 10,
+    },
+    Row {
+        statement: "void f(int x){\n__asm__(\"movl %0,%0\"::\"r\"(x));\n}\nvoid g(int x){\n__asm__(\"movl $1,%0\"::\"r\"(x));\n}\n",
+        printed: "a.c:2:1: ok\na.c:5:1: broken W2 at end: %0 -: an input is changed\n",
+        code: 1,
+    },
+    Row {
+        statement: "void f(int x){\n__asm__(\"movl %0,%0\"::\"r\"(x));\n}\nvoid g(void){\n__asm__(\"nop\");\n}\n",
+        printed: "a.c:2:1: ok\na.c:5:1: undecided statement form at 5:1\n",
+        code: 3,
+    },
+    Row {
+        statement: "void f(int x){\n__asm__(\"movl $1,%0\"::\"r\"(x));\n__asm__(\"nop\");\n}\n",
+        printed: "a.c:2:1: broken W2 at end: %0 -: an input is changed\na.c:3:1: undecided statement form at 3:1\n",
+        code: 1,
+    },
+    Row {
+        statement: "void f(int x,short s){\n__asm__(\"movl $1,%0\"::\"r\"(x));\n__asm__(\"movl %0,%0\"::\"r\"(s));\n}\n",
+        printed: "a.c: not yet\n",
+        code: 10,
+    },
+    Row {
+        statement: "short v;\nvoid f(void){int v;__asm__(\"movl %0,%0\"::\"r\"(v));}\n",
+        printed: "a.c:2:20: ok\n",
+        code: 0,
+    },
+    Row {
+        statement: "int v;\nvoid f(void){short v;__asm__(\"movl %0,%0\"::\"r\"(v));}\n",
+        printed: "a.c: not yet\n",
+        code: 10,
+    },
+    Row {
+        statement: "void f(void){__asm__(\"movl %0,%0\"::\"r\"(unknown));}\n",
         printed: "a.c: not yet\n",
         code: 10,
     },
@@ -196,6 +267,22 @@ fn statements_are_judged(rt: HostRuntime) -> Result<(), Fail> {
             "{statement}"
         );
         assert_eq!(rt; ending.code, 10, "{statement}");
+    }
+    Ok(())
+}
+
+#[test]
+fn operands_have_values_of_four_bytes(rt: HostRuntime) -> Result<(), Fail> {
+    let alloc = rt.alloc();
+    for row in &OPERANDS {
+        let ending = check(alloc, row.statement, &NOTHING)?;
+        assert_eq!(rt;
+            ending.printed.as_slice(),
+            row.printed.as_bytes(),
+            "{}",
+            row.statement
+        );
+        assert_eq!(rt; ending.code, row.code, "{}", row.statement);
     }
     Ok(())
 }

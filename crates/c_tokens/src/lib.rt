@@ -14,6 +14,7 @@ mod punctuator;
 mod token;
 mod token_end;
 
+pub use bytes::byte_at;
 pub use closing::closers;
 pub use edits::splice;
 pub use lexer::tokens;

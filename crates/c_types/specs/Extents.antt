@@ -32,6 +32,7 @@ extent_at tags place (CType-F.Pointer to) = extent_within 4 4
 extent_at tags place (CType-F.Array element None) = None
 extent_at tags place (CType-F.Array element (Some length)) =
     option_and_then (λ (e : Extent). extent_within (e.size * length) e.align) element
+extent_at tags place (CType-F.VariableArray element) = None
 extent_at tags place (CType-F.Function gives) = None
 extent_at tags place (CType-F.Tagged number) =
     option_and_then (λ (l : Layout). extent_within l.size l.align) (known_layout tags number place)

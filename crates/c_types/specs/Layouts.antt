@@ -18,7 +18,7 @@ abbrev last_extent_at : Tags → ℕ → CType → CType-F CType → Option Exte
 last_extent_at tags place t (CType-F.Array element None) = option_map (λ (e : Extent). record { size = 0; align = e.align }) (own_extent tags place element)
 last_extent_at tags place t _ = own_extent tags place t
 
--- Of a last member without a length nothing is there, but it is aligned (C11 6.7.2.1, 18).
+-- Of a last member with empty brackets nothing is there, but it is aligned (C11 6.7.2.1, 18).
 abbrev pub last_extent : Tags → ℕ → CType → Option Extent
 last_extent tags place t = last_extent_at tags place t (out-CType t)
 

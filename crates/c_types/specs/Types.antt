@@ -12,13 +12,14 @@ abbrev flexible_at : CType-F CType → Bool
 flexible_at (CType-F.Array element None) = true
 flexible_at _ = false
 
--- an array without a length
+-- an array with empty brackets
 abbrev pub is_flexible : CType → Bool
 is_flexible t = flexible_at (out-CType t)
 
 abbrev layers_at : CType-F ℕ → ℕ
 layers_at (CType-F.Pointer to) = to + 1
 layers_at (CType-F.Array element length) = element + 1
+layers_at (CType-F.VariableArray element) = element + 1
 layers_at (CType-F.Function gives) = gives + 1
 layers_at _ = 0
 

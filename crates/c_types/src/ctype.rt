@@ -19,8 +19,10 @@ pub enum CType {
     Float { size: u32 },
     /// A pointer to a type.
     Pointer(Boxed<CType>),
-    /// The type of the elements, and their number where it is known.
+    /// An array: the type of its elements, and their number, or `None` where its brackets are empty.
     Array(Boxed<CType>, Option<u64>),
+    /// An array whose length is written and isn't known, by the type of its elements (C11 6.7.6.2).
+    VariableArray(Boxed<CType>),
     /// A function, by the type of its result.
     Function(Boxed<CType>),
     /// A struct or union, by its place in `Tags`.
@@ -31,7 +33,7 @@ pub enum CType {
 }
 
 impl CType {
-    /// Whether it is an array without a length, as the last member of a struct may be (C11 6.7.2.1, 18).
+    /// Whether it is an array with empty brackets, as the last member of a struct may be (C11 6.7.2.1, 18).
     pub fn is_flexible(&self) -> bool
         ensures { result ≡ is_flexible self.now }
     {
@@ -43,8 +45,10 @@ impl CType {
         ensures { IsTrue result ↔ (layers_of self.now ≤ most) }
     {
         match self {
-            CType::Pointer(inner) | CType::Array(inner, _) | CType::Function(inner) => most > 0
-                && inner.get().is_within_layers(most - 1),
+            CType::Pointer(inner)
+            | CType::Array(inner, _)
+            | CType::VariableArray(inner)
+            | CType::Function(inner) => most > 0 && inner.get().is_within_layers(most - 1),
             _ => true,
         }
     }
@@ -57,12 +61,20 @@ impl CType {
         Ok(boxed(alloc, to)?.map_or(CType::Unknown, CType::Pointer))
     }
 
-    /// The type `T [length]`, without a length where that isn't known; `Unknown` if `element` has `MOST_LAYERS` layers.
+    /// The type `T [length]`, or `T []` without a length; `Unknown` if `element` has `MOST_LAYERS` layers.
     pub fn array_of(alloc: Global, element: CType, length: Option<u64>) -> Result<CType, Memory>
         ensures is { IfOk result (λ t. t ≡ wrapped (λ e. CType.Array e length) element) }
         ensures within { layers_of element ≤ MOST_LAYERS → IfOk result (λ t. layers_of t ≤ MOST_LAYERS) }
     {
         Ok(boxed(alloc, element)?.map_or(CType::Unknown, |e| CType::Array(e, length)))
+    }
+
+    /// The type of an array whose length is written and isn't known; `Unknown` if `element` has `MOST_LAYERS` layers.
+    pub fn variable_array_of(alloc: Global, element: CType) -> Result<CType, Memory>
+        ensures is { IfOk result (λ t. t ≡ wrapped CType.VariableArray element) }
+        ensures within { layers_of element ≤ MOST_LAYERS → IfOk result (λ t. layers_of t ≤ MOST_LAYERS) }
+    {
+        Ok(boxed(alloc, element)?.map_or(CType::Unknown, CType::VariableArray))
     }
 
     /// The type of a function with that result; `Unknown` if `gives` has `MOST_LAYERS` layers.
@@ -90,6 +102,10 @@ impl CType {
                 Boxed::new(alloc, element.get().copy(alloc)?)?,
                 *length,
             ),
+            CType::VariableArray(element) => CType::VariableArray(Boxed::new(
+                alloc,
+                element.get().copy(alloc)?,
+            )?),
             CType::Function(gives) => CType::Function(Boxed::new(alloc, gives.get().copy(alloc)?)?),
             CType::Tagged(number) => CType::Tagged(*number),
             CType::Enumeration => CType::Enumeration,

@@ -54,7 +54,11 @@ pub fn extent_of(t: &CType, tags: &Tags, place: u32) -> Option<Extent>
             let layout = tags.known(*number, place)?.layout.as_ref()?;
             extent_within(u128::from(layout.size), layout.align)
         }
-        CType::Void | CType::Array(_, None) | CType::Function(_) | CType::Unknown => None,
+        CType::Void
+        | CType::Array(_, None)
+        | CType::VariableArray(_)
+        | CType::Function(_)
+        | CType::Unknown => None,
     }
 }
 

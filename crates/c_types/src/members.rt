@@ -7,7 +7,7 @@ use asm_core::{Items, Memory};
 use std::alloc::Global;
 
 /// Where the members of a struct lie, or of a union where `joined` holds, at the offset `place` of the file.
-/// An array without a length may be the last member; a last member whose length is written and not known is no such array, and its struct has no layout.
+/// An array with empty brackets may be the last member; one whose length is written and isn't known may not, and leaves the whole without a layout.
 /// `None` where a member has no size at the place, or a size on the way passes `LARGEST_SIZE`.
 pub fn layout(
     alloc: Global,
@@ -35,7 +35,7 @@ pub fn layout(
     }
 }
 
-/// The size and the alignment of a type as the last member of a struct or union: an array without a length takes no bytes there.
+/// The size and the alignment of a type as the last member of a struct or union: an array with empty brackets takes no bytes there.
 pub fn last_extent_of(t: &CType, tags: &Tags, place: u32) -> Option<Extent>
     ensures is { result ≡ last_extent tags.now place t.now }
     ensures sound { AllAligned tags.now → IfSome result IsExtent }

@@ -161,7 +161,10 @@ fn keeps_within_the_layers(rt: HostRuntime) -> Result<(), Memory> {
     assert!(&rt; matches!(&array, CType::Unknown));
 
     let flexible = CType::array_of(alloc, CType::Float { size: 8 }, None)?;
-    assert!(&rt; flexible.is_flexible() && !t.is_flexible());
+    let variable = CType::variable_array_of(alloc, CType::Float { size: 8 })?;
+    assert!(&rt; flexible.is_flexible() && !variable.is_flexible() && !t.is_flexible());
+    assert!(&rt; variable.is_within_layers(1) && !variable.is_within_layers(0));
+    assert!(&rt; matches!(&variable.copy(alloc)?, CType::VariableArray(_)));
     let tags = Tags {
         list: Items::new(alloc),
     };
@@ -169,5 +172,7 @@ fn keeps_within_the_layers(rt: HostRuntime) -> Result<(), Memory> {
         last_extent_of(&flexible, &tags, 0),
         Some(Extent { size: 0, align: 4 })
     );
+    assert_eq!(&rt; last_extent_of(&variable, &tags, 0), None);
+    assert_eq!(&rt; extent_of(&variable, &tags, 0), None);
     Ok(())
 }

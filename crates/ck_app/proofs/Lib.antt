@@ -1,5 +1,6 @@
-mod Counting
+mod Examples
+mod FormLaws
 mod FrameLaws
-mod OutsideLaws
+mod JudgementLaws
 mod PageLaws
 mod PrintLaws

@@ -1,15 +1,18 @@
 -- From the page of a file's bytes to the page of a file.
-use Rattle.std.proofs.Common.{◌≡◌, ℕ, List, [], ◌∷◌, Bool, true, false, if◌then◌else◌, Option, None, Some, Result, Ok, Err, IsTrue, refl, sym, ◌∙◌, ap, subst, nat_lt, length}
+use Rattle.std.proofs.Common.{◌≡◌, ℕ, List, [], ◌∷◌, Bool, true, false, if◌then◌else◌, Option, None, Some, Result, Ok, Err, IsTrue, refl, sym, ◌∙◌, ap, subst, nat_lt, ◌<◌, length, arith}
 use Rattle.c_tokens.specs.Tokens.{tokens_of}
 use Rattle.c_tokens.specs.declared.token.Token.{Token}
 use Rattle.c_tokens.specs.declared.token_end.TokenEnd.{TokenEnd}
-use Rattle.asm_core.specs.declared.finding.Finding.{Finding}
+use Rattle.std.specs.List.{list_any}
+use Rattle.c_words.specs.File.{File, file_of}
+use Rattle.c_decls.specs.Walk.{declarations_of}
 use Rattle.asm_core.specs.declared.statement.Statement.{Statement}
 use Rattle.ck_ports.specs.Outside.{Outside}
 use Rattle.ck_ports.specs.declared.transfer.TheConstants.{MAX_FILE_BYTES}
-use Rattle.ck_app.specs.Answer.{Answer, answer, status_with, judged_answer, first_answer, first_or, lines_answer, status_outside, outside_lines, statements_answer, tokens_answer, file_answer, read_answer, findings_in}
+use Rattle.ck_app.specs.Answer.{Answer, answer, judged_answer, statements_answer, tokens_answer, file_answer, read_answer}
 use Rattle.asm_statement.specs.Statements.{statements_of}
-use Rattle.ck_app.specs.FirstFile.{statement_of}
+use Rattle.ck_app.specs.Judgement.{judgements_of, is_broken, is_outside}
+use Rattle.ck_app.specs.declared.judgement.Judged.{Judged}
 use Rattle.ck_app.specs.Report.{too_large_line}
 use Rattle.ck_app.specs.Run.{GivesText, IsPageOf}
 use Rattle.ck_app.specs.declared.status.Status.{Status}
@@ -22,31 +25,27 @@ is_of_file Status.WriteFault = false
 is_of_file Status.Memory = false
 is_of_file status = true
 
-of_findings : (fs : List Finding) → is_of_file (status_with fs) ≡ true
-of_findings [] = refl
-of_findings (f ∷ fs) = refl
+of_tests : (broken outside : Bool) → is_of_file (if broken then Status.Rejected else (if outside then Status.Undecided else Status.Done)) ≡ true
+of_tests true outside = refl
+of_tests false true = refl
+of_tests false false = refl
 
-of_lines : (name : List ℕ) (status : Status) (o : Option (List ℕ)) → is_of_file status ≡ true → is_of_file (lines_answer name status o).status ≡ true
-of_lines name status None h = refl
-of_lines name status (Some lines) h = h
-
-of_outside : (ss : List Statement) → is_of_file (status_outside ss) ≡ true
-of_outside [] = refl
-of_outside (s ∷ ss) = refl
-
-of_first : (name text : List ℕ) (offset : ℕ) (o : Option (List Finding)) (other : Answer) → is_of_file other.status ≡ true → is_of_file (first_or (judged_answer name text offset o) other).status ≡ true
-of_first name text offset None other h = h
-of_first name text offset (Some fs) other h = of_findings fs
-
-of_statement : (name text : List ℕ) (o : Option Statement) (other : Answer) → is_of_file other.status ≡ true → is_of_file (first_or (first_answer name text o) other).status ≡ true
-of_statement name text None other h = h
-of_statement name text (Some s) other h = of_first name text s.span.from (findings_in s) other h
+of_judged : (name text : List ℕ) (o : Option (List Judged)) → is_of_file (judged_answer name text o).status ≡ true
+of_judged name text None = refl
+of_judged name text (Some js) = of_tests (list_any (λ (j : Judged). is_broken j.judgement) js) (list_any (λ (j : Judged). is_outside j.judgement) js)
 
 of_tokens : (name text : List ℕ) (r : Result (List Token) TokenEnd) → is_of_file (tokens_answer name text r).status ≡ true
 of_tokens name text (Err end) = refl
-of_tokens name text (Ok ts) =
-    let ss = statements_of text ts in
-    of_statement name text (statement_of text) (statements_answer name text ss) (of_lines name (status_outside ss) (outside_lines name text ss) (of_outside ss))
+of_tokens name text (Ok ts) = of_judged name text (judgements_of (file_of text ts) (declarations_of (file_of text ts)) (statements_of text ts))
+
+-- a file without statements is done, with nothing to print
+pub no_statements : (name : List ℕ) (f : File) (ss : List Statement) → ss ≡ [] → statements_answer name f ss ≡ answer [] Status.Done
+unfolding judgements_of
+no_statements name f ss none = ap (statements_answer name f) none
+
+pub none_left : (ss : List Statement) → length ss < 1 → ss ≡ []
+none_left [] lt = refl
+none_left (s ∷ ss) lt = absurd (omega arith)
 
 of_either : (b : Bool) (x y : Answer) → is_of_file x.status ≡ true → is_of_file y.status ≡ true → is_of_file (if b then x else y).status ≡ true
 of_either true x y h k = h

@@ -6,6 +6,7 @@ use Rattle.ck_ports.specs.Outside.{Outside}
 use Rattle.ck_ports.specs.Written.{Written, Writes, WritesPrefix}
 use Rattle.ck_app.specs.Answer.{Answer, read_answer, command_answer}
 use Rattle.ck_app.specs.Run.{Tells, HasReadFault, PrintsPart, GivesAnswer, GivesText, Prints, HasCause, IsPageOf, IsPrinted, is_page_status}
+use Rattle.ck_app.specs.Status.{is_report}
 use Rattle.ck_app.specs.Words.{Command, usage_line}
 use Rattle.ck_app.specs.declared.status.Status.{Status}
 
@@ -79,9 +80,18 @@ module _ (name : List ℕ) (old new : Outside) (before after : Written) (text : 
   page_cause Status.TooLarge asked page printed = refl
   page_cause Status.NotYet asked page printed = refl
 
-  -- a run is done only where the page says so
-  pub page_done : (result asked : Status) → IsPrinted result asked text before after → result ≡ Status.Done → asked ≡ Status.Done
-  page_done result asked printed done = let here : IsPrinted Status.Done asked text before after = subst (λ s. IsPrinted s asked text before after) done printed in sym here.0
+  -- a run ends as a report only where the page says so
+  pub page_report : (result asked : Status) → IsPrinted result asked text before after → is_report result ≡ true → is_report asked ≡ true
+  page_report Status.WriteFault asked printed is = cc
+  page_report Status.Memory asked printed is = cc
+  page_report Status.ReadFault asked printed is = cc
+  page_report Status.Usage asked printed is = cc
+  page_report Status.BadText asked printed is = cc
+  page_report Status.TooLarge asked printed is = cc
+  page_report Status.NotYet asked printed is = cc
+  page_report Status.Done asked printed is = subst (λ s. is_report s ≡ true) printed.0 is
+  page_report Status.Rejected asked printed is = subst (λ s. is_report s ≡ true) printed.0 is
+  page_report Status.Undecided asked printed is = subst (λ s. is_report s ≡ true) printed.0 is
 
 -- a page never has the status of a refused print
 pub page_status : (status : Status) (text name : List ℕ) (old new : Outside) → IsPageOf status text name old new → is_page_status status ≡ true

@@ -1,6 +1,7 @@
 pub mod Answer
-pub mod FirstFile
+pub mod Form
 pub mod Judge
+pub mod Judgement
 pub mod Place
 pub mod Report
 pub mod Run

@@ -6,6 +6,8 @@ use Rattle.asm_core.specs.declared.finding.Finding.{Finding}
 use Rattle.asm_core.specs.declared.mark.MarkKind.{MarkKind}
 use Rattle.c_tokens.specs.Lines.{line_col_of}
 use Rattle.c_tokens.specs.declared.token_end.TokenEnd.{TokenEnd}
+use Rattle.ck_app.specs.declared.judgement.Judgement.{Judgement}
+use Rattle.ck_app.specs.declared.judgement.Judged.{Judged}
 
 -- as `1:20`
 abbrev pub line_column_text : ℕ × ℕ → List ℕ
@@ -38,6 +40,16 @@ kind_name MarkKind.Instruction = codes "instruction"
 -- the line of a statement at that place that is outside the tables, as `a.c:1:20: undecided statement form at 1:20`
 abbrev pub mark_line : List ℕ → MarkKind → ℕ × ℕ → List ℕ
 mark_line place kind at = place ++ codes "undecided " ++ kind_name kind ++ codes " at " ++ line_column_text at ++ codes "\n"
+
+-- the lines of a statement whose keyword is at an offset
+abbrev pub judgement_lines : List ℕ → List ℕ → ℕ → Judgement → List ℕ
+judgement_lines name text offset (Judgement.Findings findings) = statement_lines (place_text name (line_col_of text offset)) findings
+judgement_lines name text offset (Judgement.Outside mark) =
+    mark_line (place_text name (line_col_of text offset)) mark.kind (line_col_of text mark.place)
+
+-- the lines of the statements of a file
+abbrev pub judged_lines : List ℕ → List ℕ → List Judged → List ℕ
+judged_lines name text js = flat_map (λ (j : Judged). judgement_lines name text j.offset j.judgement) js
 
 abbrev pub cannot_be_read_line : List ℕ → List ℕ
 cannot_be_read_line name = name ++ codes ": cannot be read\n"

@@ -1,8 +1,9 @@
 //! asmck: what its words ask for, done over files and an output that the caller hands in.
 #![tactic(auto)]
 
-mod first_file;
+mod form;
 mod judge;
+mod judgement;
 mod report;
 mod runner;
 mod status;

@@ -1,9 +1,10 @@
 ghost use Rattle.std.specs.Prelude.{◌≡◌, ◌<◌, ◌++◌, Some, length, IfOk, OnOk};
 ghost use Rattle.std.specs.List.{flat_map};
 ghost use Rattle.std.specs.String.{string_bytes};
-ghost use Rattle.ck_app.specs.Report.{statement_lines, finding_line, mark_line, kind_name, place_text, bad_text_line, fault_of, cannot_be_read_line, too_large_line, not_yet_line};
+ghost use Rattle.ck_app.specs.Report.{judged_lines, judgement_lines, statement_lines, finding_line, mark_line, kind_name, place_text, bad_text_line, fault_of, cannot_be_read_line, too_large_line, not_yet_line};
 ghost use Rattle.c_tokens.specs.Lines.{line_col_of};
 
+use crate::judgement::{Judged, Judgement};
 use asm_core::{Finding, Mark, MarkKind, Memory};
 use c_tokens::{LineStarts, TokenEnd, line_col};
 use std::alloc::Global;
@@ -104,28 +105,65 @@ impl<'a> Places<'a> {
     }
 }
 
-/// The lines of the statement at that place: accepted, or what is wrong with it.
-pub fn statement_lines(
+/// The lines of the statements of a file, in their order.
+pub fn judged_lines(
     alloc: Global,
-    place: Place<'_>,
-    findings: &[Finding],
+    name: &str,
+    text: &[u8],
+    judged: &[Judged],
 ) -> Result<String, Memory>
-    ensures { IfOk result (λ text. string_bytes text ≡ statement_lines (place_text place.entry.name.now (place.entry.line, place.entry.column)) findings.now) }
+    requires { length text.now < 4294967295 }
+    ensures { IfOk result (λ lines. string_bytes lines ≡ judged_lines name.now text.now judged.now) }
 {
-    match findings {
-        [] => Ok(format!(in alloc; "{place}ok\n")?),
-        [_, ..] => finding_lines(alloc, place, findings),
+    let places = Places::new(alloc, name, text)?;
+    let mut lines = String::new(alloc);
+    for statement in judged {
+        append_judgement(&mut lines, &places, statement.offset, &statement.judgement)?;
+    }
+    Ok(lines)
+}
+
+/// Appends the lines of the statement whose keyword is at that offset.
+fn append_judgement(
+    lines: &mut String,
+    places: &Places<'_>,
+    offset: u32,
+    judgement: &Judgement,
+) -> Result<(), Memory>
+    ensures { OnOk result (string_bytes lines.new ≡ string_bytes lines.old ++ judgement_lines places.now.0 places.now.1 offset judgement.now) }
+{
+    match judgement {
+        Judgement::Findings(findings) => {
+            append_statement(lines, places.place(offset), findings.as_slice())
+        }
+        Judgement::Outside(mark) => append_mark(lines, places, offset, *mark),
     }
 }
 
-fn finding_lines(alloc: Global, place: Place<'_>, findings: &[Finding]) -> Result<String, Memory>
-    ensures { IfOk result (λ text. string_bytes text ≡ flat_map (finding_line (place_text place.entry.name.now (place.entry.line, place.entry.column))) findings.now) }
+/// Appends the lines of the statement at that place: accepted, or what is wrong with it.
+fn append_statement(
+    lines: &mut String,
+    place: Place<'_>,
+    findings: &[Finding],
+) -> Result<(), Memory>
+    ensures { OnOk result (string_bytes lines.new ≡ string_bytes lines.old ++ statement_lines (place_text place.entry.name.now (place.entry.line, place.entry.column)) findings.now) }
 {
-    let mut lines = String::new(alloc);
-    for finding in findings {
-        append_finding(&mut lines, place, finding)?;
+    match findings {
+        [] => {
+            write!(lines, "{place}ok\n")?;
+            Ok(())
+        }
+        [_, ..] => append_findings(lines, place, findings),
     }
-    Ok(lines)
+}
+
+fn append_findings(lines: &mut String, place: Place<'_>, findings: &[Finding]) -> Result<(), Memory>
+    ensures { OnOk result (string_bytes lines.new ≡ string_bytes lines.old ++ flat_map (finding_line (place_text place.entry.name.now (place.entry.line, place.entry.column))) findings.now) }
+{
+    for finding in findings {
+        append_finding(lines, place, finding)?;
+    }
+    Ok(())
 }
 
 fn append_finding(lines: &mut String, place: Place<'_>, finding: &Finding) -> Result<(), Memory>
@@ -140,7 +178,7 @@ fn append_finding(lines: &mut String, place: Place<'_>, finding: &Finding) -> Re
 }
 
 /// Appends the line of a statement at an offset that is outside the tables.
-pub fn append_mark(
+fn append_mark(
     lines: &mut String,
     places: &Places<'_>,
     offset: u32,

@@ -4,6 +4,7 @@ ghost use Rattle.ck_ports.specs.declared.files.Mode.TheVariants.{Closed};
 ghost use Rattle.ck_ports.specs.Faults.{CountsAt};
 ghost use Rattle.ck_ports.specs.Outside.{SameFiles};
 ghost use Rattle.ck_app.specs.Answer.{answer_of, read_answer};
+ghost use Rattle.ck_app.specs.Status.{is_report};
 ghost use Rattle.ck_app.specs.Words.{check_command, command_of};
 ghost use Rattle.ck_app.specs.Run.{Tells, Prints, HasCause, CountsReads, OkIsFramed, IsPageOf, IsPrinted, is_page_status};
 
@@ -34,8 +35,8 @@ pub fn run<F: Files, K: Sink>(alloc: Global, words: &[String], files: &mut F, ou
     ensures cause { HasCause result (command_of (map string_bytes words.now))
         (F.outside files.old) (F.outside files.new) (K.written out.old) (K.written out.new) }
 
-    // A statement that is printed `ok` changes only what it declares.
-    ensures framed { Tells (F.outside files.old) (K.written out.old) → result ≡ Status.Done
+    // Each statement that is printed `ok` changes only what it declares.
+    ensures framed { Tells (F.outside files.old) (K.written out.old) → IsTrue (is_report result)
         → OkIsFramed (command_of (map string_bytes words.now)) (F.outside files.old) }
 
     // No file is changed, all are closed, and only a file that the words tell to read could not be read.
@@ -61,7 +62,7 @@ fn check_file<F: Files, K: Sink>(alloc: Global, name: &str, files: &mut F, out: 
         (F.outside files.old) (F.outside files.new) (K.written out.old) (K.written out.new) }
     ensures cause { HasCause result (Some (check_command name.now))
         (F.outside files.old) (F.outside files.new) (K.written out.old) (K.written out.new) }
-    ensures framed { Tells (F.outside files.old) (K.written out.old) → result ≡ Status.Done
+    ensures framed { Tells (F.outside files.old) (K.written out.old) → IsTrue (is_report result)
         → OkIsFramed (Some (check_command name.now)) (F.outside files.old) }
 
     ensures closed { (F.outside files.new).mode ≡ Closed }
@@ -83,7 +84,7 @@ fn page_of<F: Files>(alloc: Global, name: &str, files: &mut F) -> Result<Page, M
     requires { (F.outside files.old).mode ≡ Closed }
 
     ensures page { IfOk result (λ page. IsPageOf page.status (string_bytes page.text) name.now (F.outside files.old) (F.outside files.new)) }
-    ensures framed { IfOk result (λ page. IsTrue (F.outside files.old).tells → page.status ≡ Status.Done
+    ensures framed { IfOk result (λ page. IsTrue (F.outside files.old).tells → IsTrue (is_report page.status)
         → OkIsFramed (Some (check_command name.now)) (F.outside files.old)) }
 
     ensures closed { (F.outside files.new).mode ≡ Closed }

@@ -1,7 +1,7 @@
 use Rattle.std.proofs.Common.{List, ℕ, subst}
 use Rattle.std.specs.String.{string_bytes}
 use Rattle.ck_app.specs.Run.{IsPrinted}
-use Rattle.ck_app.proofs.PrintLaws.{page_prints, page_done}
+use Rattle.ck_app.proofs.PrintLaws.{page_prints, page_report}
 use Rattle.ck_app.proofs.runner.check_file.Goals as goal
 
 pub returns-in-Ok-clause-prints : goal.returns-in-Ok-clause-prints
@@ -13,9 +13,9 @@ returns-in-Ok-clause-prints g c = λ told.
     c.print.result c.in-Ok.page.status c.in-Ok.ensures.page printed told
 
 pub returns-in-Ok-clause-framed : goal.returns-in-Ok-clause-framed
-returns-in-Ok-clause-framed g c = λ told done text is_text.
+returns-in-Ok-clause-framed g c = λ told reports text is_text.
     let before = g.K.Sink.written c.args.out.now in
     let after = g.K.Sink.written c.print.new.out in
-    let page_is_done = page_done c.args.name.now (g.F.Files.outside c.args.files.now) (g.F.Files.outside c.page_of.new.files) before after c.as_bytes.result.now
-    c.print.result c.in-Ok.page.status c.print.ensures.printed done in
-    c.in-Ok.ensures.framed told.0 page_is_done text is_text
+    let page_reports = page_report c.args.name.now (g.F.Files.outside c.args.files.now) (g.F.Files.outside c.page_of.new.files) before after c.as_bytes.result.now
+    c.print.result c.in-Ok.page.status c.print.ensures.printed reports in
+    c.in-Ok.ensures.framed told.0 page_reports text is_text

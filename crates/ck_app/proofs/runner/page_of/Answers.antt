@@ -11,7 +11,7 @@ returns-in_ok-judge-in-Ok-clause-page g c =
     c.in_ok-judge-in-Ok.field-0.status (string_bytes c.in_ok-judge-in-Ok.field-0.text) c.in_ok-judge-in-Ok.ensures.answer.status c.in_ok-judge-in-Ok.ensures.answer.text
 
 pub returns-in_ok-judge-in-Ok-clause-framed : goal.returns-in_ok-judge-in-Ok-clause-framed
-returns-in_ok-judge-in-Ok-clause-framed g c = λ told done text is_text.
+returns-in_ok-judge-in-Ok-clause-framed g c = λ told reports text is_text.
     let there = c.in-Ok.ensures.whole told in
     let same : c.as_slice.result.now ≡ text = cc (c.as_slice.ensures, there, is_text) in
-    subst KeepsFrames same (c.in_ok-judge-in-Ok.ensures.framed done)
+    subst KeepsFrames same (c.in_ok-judge-in-Ok.ensures.framed reports)

@@ -1,8 +1,0 @@
-use Rattle.std.proofs.Common.{◌≡◌, drop}
-use Rattle.asm_statement.specs.Escapes.{template_of}
-use Rattle.asm_statement.proofs.EscapeLemmas.{after}
-use Rattle.asm_statement.proofs.escape.template.Given as goal
-
--- what was read, and what is left, are what the whole gives
-abbrev pub invariant-loop-token : goal.invariant-loop-token
-invariant-loop-token l = after l.list.items (template_of l.text (drop l.token-index l.tokens)) ≡ template_of l.text l.tokens

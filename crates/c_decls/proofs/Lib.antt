@@ -1,0 +1,12 @@
+pub mod EndLemmas
+pub mod ParameterLemmas
+pub mod DeclaringLemmas
+pub mod PlaceLemmas
+pub mod WalkLemmas
+pub mod HidingLemmas
+pub mod StatementLemmas
+pub mod TagLemmas
+pub mod MemberLemmas
+pub mod EnumeratorLemmas
+pub mod ItemLemmas
+pub mod BodyLemmas

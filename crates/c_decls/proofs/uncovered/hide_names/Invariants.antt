@@ -1,0 +1,11 @@
+use Rattle.std.proofs.Common.{◌≡◌, ◌≤◌, ◌-◌, length}
+use Rattle.c_decls.specs.Hiding.{hidden_names}
+use Rattle.c_decls.proofs.HidingLemmas.{names_from}
+use Rattle.c_decls.proofs.uncovered.hide_names.Given as goal
+
+-- what is left gives what the whole gives
+abbrev pub invariant-loop-i : goal.invariant-loop-i
+invariant-loop-i l = (l.h.first ≤ l.i) × (names_from l.source l.h l.i l.scopes ≡ hidden_names l.source l.h l.fn.scopes)
+
+abbrev pub decreases-loop-i : goal.decreases-loop-i
+decreases-loop-i l = length l.source.tokens - l.i

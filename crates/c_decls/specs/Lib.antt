@@ -1,0 +1,12 @@
+pub mod Progress
+pub mod Ends
+pub mod Statements
+pub mod Hiding
+pub mod Tags
+pub mod Members
+pub mod Enumerators
+pub mod Bodies
+pub mod Declarations
+pub mod Items
+pub mod Places
+pub mod Walk

@@ -1,0 +1,9 @@
+pub mod RepeatLemmas
+pub mod AttributeLemmas
+pub mod PointerLemmas
+pub mod LeafLemmas
+pub mod NestingLemmas
+pub mod ExpressionLemmas
+pub mod SpecifierLemmas
+pub mod SuffixLemmas
+pub mod ParameterLemmas

@@ -1,0 +1,12 @@
+pub mod Repeat
+pub mod Reads
+pub mod Marks
+pub mod Basics
+pub mod Attributes
+pub mod Grammar
+pub mod Specifiers
+pub mod Declarators
+pub mod Operators
+pub mod Leaves
+pub mod Expressions
+pub mod Nesting

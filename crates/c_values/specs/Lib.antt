@@ -1,0 +1,12 @@
+pub mod Ends
+pub mod Numbers
+pub mod NumberTypes
+pub mod Calculations
+pub mod Operands
+pub mod Operators
+pub mod Pointers
+pub mod Casts
+pub mod Choices
+pub mod Members
+pub mod Literals
+pub mod Readings

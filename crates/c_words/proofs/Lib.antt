@@ -1,0 +1,4 @@
+pub mod FoundLemmas
+pub mod CloserLemmas
+mod Examples
+pub mod NameLemmas
