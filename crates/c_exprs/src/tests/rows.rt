@@ -106,7 +106,7 @@ pub const FIRST: [Row; 89] = [
 ];
 
 /// The other operators.
-pub const SECOND: [Row; 90] = [
+pub const SECOND: [Row; 91] = [
     ("p - 1", Some(4), Some(4), true, None),
     ("p - p", Some(4), Some(4), false, None),
     ("a + 2", Some(4), Some(4), true, None),
@@ -208,6 +208,7 @@ pub const SECOND: [Row; 90] = [
     ("nested.inner", Some(2), Some(2), false, None),
     ("&st.i", Some(4), Some(4), true, None),
     ("c = q", Some(1), Some(1), false, None),
+    ("vf + 1", Some(4), Some(4), true, None),
     ("c += q", Some(1), Some(1), false, None),
     ("p = 0", Some(4), Some(4), true, None),
     ("p += 1", Some(4), Some(4), true, None),
@@ -241,7 +242,7 @@ pub const NONE: [&str; 31] = [
     "sizeof(struct none { int z; })",
     "1 ? st : 0",
     "hidden",
-    "vf + 1",
+    "vf() + 1",
     "i =",
     "(i",
     "__func__",
