@@ -11,19 +11,11 @@ import subprocess
 import sys
 import tempfile
 
+from support.compiler import preprocessed
+
 CRATE = pathlib.Path(__file__).resolve().parent.parent / "crates/asmck"
 HEADERS = "".join(f"#include <{name}.h>\n" for name in ("math", "stdio", "stdlib", "string"))
 STATEMENTS = 'void f(int x){ __asm__ volatile("nop");\n  if (x) asm("cli"); }\n'
-
-
-def preprocessed(source, folder):
-    # glibc's headers ask for this file, which only a 32-bit C library brings; it may be empty here.
-    stubs = folder / "gnu"
-    stubs.mkdir(exist_ok=True)
-    (stubs / "stubs-32.h").touch()
-    command = ["gcc", "-m32", "-E", "-I/usr/include/x86_64-linux-gnu", f"-I{folder}", "-x", "c", "-"]
-    done = subprocess.run(command, input=source, text=True, capture_output=True)
-    return done.stdout if done.returncode == 0 else None
 
 
 def asmck(text, folder):

@@ -1,0 +1,31 @@
+"""Programs over this repository's crates, built without a proof by `rt try`."""
+import pathlib
+import shutil
+import subprocess
+
+ROOT = pathlib.Path(__file__).resolve().parent.parent.parent
+
+
+def program_in(folder, name, crates):
+    """The crate of checks/programs/NAME.rt, in a repository of copies of this one's crates."""
+    copies = folder / "repository/crates"
+    shutil.copytree(ROOT / "crates", copies, ignore=shutil.ignore_patterns("out"))
+    (copies.parent / "crates.txt").write_text((ROOT / "crates.txt").read_text() + f"{name}: {crates}\n")
+    code = copies / name / "src"
+    code.mkdir(parents=True)
+    shutil.copy(ROOT / f"checks/programs/{name}.rt", code / "main.rt")
+    return code.parent
+
+
+def told(crate, cases):
+    """What the program prints of each file in the folder, by its name."""
+    done = subprocess.run(["rt", "try", "--cases", str(cases), "--", "{}"], cwd=crate, text=True, capture_output=True)
+    found, lines = {}, None
+    for line in done.stdout.splitlines():
+        if line.startswith("== "):
+            lines = found.setdefault(line.split()[1], [])
+        elif lines is not None and line:
+            lines.append(line)
+    if not found:
+        print(done.stdout[-2000:], done.stderr[-2000:])
+    return found
