@@ -1,8 +1,7 @@
 -- Where parts end.
-use Rattle.std.proofs.Common.{◌≡◌, ℕ, zero, suc, ◌+◌, ◌-◌, ◌<◌, ◌≤◌, Bool, true, false, ◌||◌, length, refl, ◌∙◌, sym, ap, arith}
+use Rattle.std.proofs.Common.{◌≡◌, ℕ, ◌<◌, ◌≤◌, Bool, true, false, ◌||◌, length, refl}
 use Rattle.c_words.specs.File.{File}
 use Rattle.c_words.specs.Words.{word_at, past_group}
-use Rattle.c_reader.specs.declared.next.Next.{Next}
 use Rattle.c_reader.specs.declared.next.Next.TheVariants.{Done, More}
 use Rattle.c_reader.specs.Repeat.{repeated}
 use Rattle.c_reader.proofs.RepeatLemmas.{repeated_done, repeated_more, repeated_stop}

@@ -1,12 +1,14 @@
 -- What is hidden, step by step.
-use Rattle.std.proofs.Common.{◌≡◌, ℕ, ◌+◌, ◌-◌, ◌<◌, ◌≤◌, length, refl, ◌∙◌, sym, ap, arith}
+use Rattle.std.proofs.Common.{◌≡◌, ℕ, zero, suc, true, false, ◌-◌, ◌<◌, ◌≤◌, length, refl, sym, arith}
 use Rattle.c_words.specs.File.{File}
+use Rattle.c_words.specs.Words.{word_at}
 use Rattle.c_scopes.specs.Seen.{Declared}
 use Rattle.c_decls.specs.declared.hiding.Hidden.{Hidden}
 use Rattle.c_reader.specs.declared.next.Next.TheVariants.{Done, More}
 use Rattle.c_reader.specs.Repeat.{repeated}
 use Rattle.c_reader.proofs.RepeatLemmas.{repeated_done, repeated_more, repeated_stop}
-use Rattle.c_decls.specs.Hiding.{enumerators_step, bodies_step, names_step, outer_step, sealed_step, hidden_at_end}
+use Rattle.c_reader.specs.Marks.{is_star}
+use Rattle.c_decls.specs.Hiding.{enumerators_step, bodies_step, names_step, outer_step, sealed_step, hidden_at_end, is_qualifier, follows_star}
 
 -- ---- the enumerators of a body
 
@@ -42,6 +44,31 @@ pub bodies-stop : (f : File) (to end i : ℕ) (seen : Declared) → length f.tok
 bodies-stop f to end i seen le = repeated_stop (bodies_step f to end) hidden_at_end (length f.tokens) i seen le
 
 pub ruleset bodies_steps = (bodies-done, bodies-more, bodies-stop)
+
+-- ---- stars before an index
+
+pub star-none : (f : File) (i : ℕ) → i ≤ 0 → follows_star f i ≡ false
+unfolding follows_star
+star-none f zero le = refl
+star-none f (suc i) le = absurd (omega arith)
+
+star-behind_qualifier : (f : File) (i : ℕ) → is_qualifier (word_at f i) ≡ true → follows_star f (suc i) ≡ follows_star f i
+unfolding follows_star
+star-behind_qualifier f i e = rw e refl
+
+star-behind_other : (f : File) (i : ℕ) → is_qualifier (word_at f i) ≡ false → follows_star f (suc i) ≡ is_star (word_at f i)
+unfolding follows_star
+star-behind_other f i e = rw e refl
+
+pub star-further : (f : File) (i : ℕ) → 0 < i → is_qualifier (word_at f (i - 1)) ≡ true → follows_star f i ≡ follows_star f (i - 1)
+star-further f zero lt e = absurd (omega arith)
+star-further f (suc i) lt e = let back : suc i - 1 ≡ i = omega arith in let here = rw back at e in rw back (star-behind_qualifier f i here)
+
+pub star-here : (f : File) (i : ℕ) → 0 < i → is_qualifier (word_at f (i - 1)) ≡ false → follows_star f i ≡ is_star (word_at f (i - 1))
+star-here f zero lt e = absurd (omega arith)
+star-here f (suc i) lt e = let back : suc i - 1 ≡ i = omega arith in let here = rw back at e in rw back (star-behind_other f i here)
+
+pub ruleset star_steps = (star-none, star-further, star-here)
 
 -- ---- the names of a declaration that isn't covered
 

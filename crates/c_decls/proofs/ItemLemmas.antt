@@ -1,8 +1,7 @@
 -- Where items begin.
-use Rattle.std.proofs.Common.{◌≡◌, ℕ, ◌+◌, ◌<◌, ◌≤◌, Bool, true, false, length, refl, arith}
+use Rattle.std.proofs.Common.{◌≡◌, ℕ, ◌+◌, ◌<◌, ◌≤◌, true, false, length, refl, arith}
 use Rattle.c_words.specs.File.{File}
 use Rattle.c_words.specs.Words.{word_at}
-use Rattle.c_words.specs.declared.word.Word.TheVariants.{Extension}
 use Rattle.c_reader.specs.declared.next.Next.TheVariants.{Done, More}
 use Rattle.c_reader.proofs.RepeatLemmas.{repeated_done, repeated_more, repeated_stop}
 use Rattle.c_decls.specs.Items.{is_extension, extension_step, extension_stop, behind_extensions}

@@ -1,10 +1,8 @@
 -- The parameters of a function.
-use Rattle.std.proofs.Common.{◌≡◌, ℕ, zero, suc, ◌+◌, ◌-◌, ◌<◌, ◌≤◌, List, [], ◌∷◌, Option, Some, None, length, slice_get, get_or, drop, true, false, refl, ◌∙◌, sym, ap, arith}
+use Rattle.std.proofs.Common.{◌≡◌, ℕ, ◌+◌, ◌<◌, ◌≤◌, List, [], ◌∷◌, None, length, slice_get, get_or, drop, refl, ◌∙◌, sym, ap, arith}
 use Rattle.c_words.specs.File.{File}
 use Rattle.c_words.specs.Words.{word_at}
 use Rattle.c_scopes.specs.Seen.{Declared}
-use Rattle.c_reader.specs.declared.next.Next.{Next}
-use Rattle.c_reader.specs.declared.next.Next.TheVariants.{Done, More}
 use Rattle.c_reader.specs.declared.grammar.Context.TheVariants as contexts
 use Rattle.c_reader.specs.Nesting.{inner}
 use Rattle.c_words.specs.declared.word.Word.TheVariants as words
@@ -12,15 +10,10 @@ use Rattle.std.proofs.lemmas.Option.{slice_get_past}
 use Rattle.std.proofs.lemmas.List.{drop_more, drop_all}
 use Rattle.c_decls.specs.declared.declaring.TheConstants.{MOST_NESTING}
 use Rattle.c_reader.specs.declared.grammar.Parameter.{Parameter}
-use Rattle.c_reader.specs.declared.grammar.Parameters.{Parameters}
-use Rattle.c_reader.specs.declared.grammar.Specifiers.{Specifiers}
-use Rattle.c_reader.specs.Repeat.{repeated}
 use Rattle.c_reader.specs.Grammar.{Inner}
 use Rattle.c_reader.specs.Declarators.{no_parameters, parameters_at, parameters_step}
-use Rattle.c_reader.proofs.RepeatLemmas.{repeated_done, repeated_more, repeated_stop}
-use Rattle.c_decls.specs.declared.declaring.Ending.{Ending}
-use Rattle.c_decls.specs.Progress.{read}
-use Rattle.c_decls.specs.Declarations.{Found, declarator_step, declarators_declared, parameter_declared, parameters_listed, parameters_in, unended}
+use Rattle.c_reader.proofs.RepeatLemmas.{repeated_stop}
+use Rattle.c_decls.specs.Declarations.{parameter_declared, parameters_listed, parameters_in}
 
 listed-none : (f : File) (brace : ℕ) (seen : Declared) → parameters_listed f brace [] seen ≡ seen
 unfolding parameters_listed

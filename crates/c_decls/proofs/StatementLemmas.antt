@@ -1,5 +1,5 @@
 -- Where statements end, from the last token to the first.
-use Rattle.std.proofs.Common.{◌≡◌, ℕ, zero, suc, ◌+◌, ◌-◌, ◌<◌, ◌≤◌, Bool, true, false, List, [], ◌∷◌, length, take, drop, get_or, codes, nat_eq, refl, ◌∙◌, sym, subst, ap, arith, length-drop, take_all}
+use Rattle.std.proofs.Common.{◌≡◌, ℕ, zero, suc, ◌+◌, ◌-◌, ◌<◌, ◌≤◌, false, List, [], ◌∷◌, length, take, drop, codes, nat_eq, refl, ◌∙◌, sym, subst, ap, arith, length-drop, take_all}
 use Rattle.std.specs.Cmp.Lexicographic.{pointwise}
 use Rattle.std.proofs.lemmas.List.{drop-drop, drop-set}
 use Rattle.std.proofs.lemmas.Option.{slice_get_past}
@@ -10,7 +10,7 @@ use Rattle.c_words.specs.File.{File}
 use Rattle.c_words.specs.Words.{bytes_at}
 use Rattle.c_decls.specs.declared.ends.Stop.TheVariants.{Semicolon}
 use Rattle.c_decls.specs.Ends.{level_end}
-use Rattle.c_decls.specs.Statements.{end_among, level_ends, spelt, statement_end_by, statement_ends}
+use Rattle.c_decls.specs.Statements.{end_among, level_ends, statement_end_by, statement_ends}
 use Rattle.c_decls.proofs.EndLemmas.{level-stop}
 
 -- what the list of ends says of an index that lies so far behind the list's first

@@ -1,11 +1,10 @@
 -- One token of a file.
-use Rattle.std.proofs.Common.{◌≡◌, ℕ, ◌<◌, ◌≤◌, length, refl}
+use Rattle.std.proofs.Common.{◌≡◌, ℕ, ◌<◌, ◌≤◌, length}
 use Rattle.c_words.specs.File.{File}
 use Rattle.c_scopes.specs.Seen.{Declared}
 use Rattle.c_reader.specs.declared.next.Next.TheVariants.{More}
 use Rattle.c_reader.specs.Repeat.{repeated}
 use Rattle.c_reader.proofs.RepeatLemmas.{repeated_more, repeated_stop}
-use Rattle.c_decls.specs.Progress.{read}
 use Rattle.c_decls.specs.Walk.{At, walk_end, walk_step}
 
 abbrev pub walked_from : File → ℕ → At → Declared

@@ -1,5 +1,5 @@
 -- Declarations (C11 6.7) and what they declare.
-use Rattle.std.specs.Prelude.{ℕ, ◌<◌, Bool, true, false, ◌+◌, ◌-◌, ◌==◌, ◌&&◌, ◌||◌, not, if◌then◌else◌, Option, Some, None, length, List, [], ◌∷◌}
+use Rattle.std.specs.Prelude.{ℕ, ◌<◌, ◌+◌, ◌-◌, ◌==◌, ◌&&◌, not, if◌then◌else◌, Option, Some, None, length, List, [], ◌∷◌}
 use Rattle.c_types.specs.declared.ctype.CType.{CType}
 use Rattle.c_words.specs.File.{File}
 use Rattle.c_words.specs.Words.{word_at, bytes_at, start_at, end_at, past_group, behind_asm_label}
@@ -138,7 +138,7 @@ again f to s j seen = declared_again f to s j seen (declarator_in f MOST_NESTING
 
 abbrev pub with_tags_in : File → ℕ → Specifiers → ℕ → Declared → Option Declarator → Reading
 with_tags_in f to s j seen None = ended seen endings.Uncovered
-with_tags_in f to s j seen (Some d) = again f to s j (tags_within f to (bodies_in f to) j d.end seen)
+with_tags_in f to s j seen (Some d) = again f to s j (tags_within f to (bodies_in f to) j (attributes_of f s d).end seen)
 
 unfoldable pub declarator_step : File → ℕ → Specifiers → ℕ → Declared → Reading
 declarator_step f to s j seen = with_tags_in f to s j seen (declarator_in f MOST_NESTING s j seen)

@@ -1,7 +1,7 @@
 -- Where the parts of declarations and statements end.
 use Rattle.std.specs.Prelude.{◌≤◌, ◌<◌, ℕ, Bool, true, false, ◌+◌, ◌-◌, ◌==◌, ◌&&◌, ◌||◌, not, if◌then◌else◌, Option, Some, None, length}
 use Rattle.c_words.specs.File.{File}
-use Rattle.c_words.specs.Words.{word_at, start_at, end_at, past_group}
+use Rattle.c_words.specs.Words.{word_at, past_group}
 use Rattle.c_words.specs.declared.word.Word.{Word}
 use Rattle.c_words.specs.declared.word.Word.TheVariants as words
 use Rattle.c_words.specs.declared.word.TagWord.{TagWord}
@@ -10,7 +10,7 @@ use Rattle.c_words.specs.declared.punct.Punct.TheVariants as puncts
 use Rattle.c_reader.specs.declared.next.Next.{Next}
 use Rattle.c_reader.specs.declared.next.Next.TheVariants.{Done, More}
 use Rattle.c_reader.specs.Repeat.{repeated}
-use Rattle.c_reader.specs.Marks.{is_open_paren, is_open_brace, is_close_paren, is_comma, is_colon, is_question, is_semicolon, is_assign}
+use Rattle.c_reader.specs.Marks.{is_open_paren, is_open_brace, is_comma, is_colon, is_question, is_semicolon, is_assign}
 use Rattle.c_reader.specs.Specifiers.{tag_index, behind_tag}
 use Rattle.c_decls.specs.declared.ends.Stop.{Stop}
 use Rattle.c_decls.specs.declared.ends.Stop.TheVariants as stops

@@ -90,9 +90,14 @@ named_at f to depth i behind r =
     enumerated f to i end (written_value f depth behind r.seen) (read (hidden_bodies f to (behind + 1) end r.seen) r.found))
     else enumerated f to i behind r.found.next r
 
+-- bodies in the attributes behind the name at the index hide their names
+abbrev pub attributes_passed : File → ℕ → ℕ → ℕ → Found → Found
+attributes_passed f to i behind r = read (hidden_bodies f to (i + 1) behind r.seen) r.found
+
 unfoldable pub enumerator_step : File → ℕ → ℕ → ℕ → Found → Reading
 enumerator_step f to depth i r =
-    if is_name (word_at f i) then named_at f to depth i (attributes_at f (i + 1)).end r
+    if is_name (word_at f i)
+    then (let behind = (attributes_at f (i + 1)).end in named_at f to depth i behind (attributes_passed f to i behind r))
     else if is_close_brace (word_at f i) then Done r
     else Done (read r.seen (malformed r.found))
 

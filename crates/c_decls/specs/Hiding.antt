@@ -1,6 +1,6 @@
 -- Names and tags that are hidden, since what they mean isn't known (this project's own).
-use Rattle.std.specs.Prelude.{ℕ, Bool, true, false, ◌+◌, ◌-◌, ◌==◌, ◌&&◌, ◌||◌, nat_lt, not, if◌then◌else◌, Option, Some, None, length, List, [], ◌∷◌, slice_get, slice_set}
-use Rattle.c_types.specs.declared.ctype.CType.{CType, Unknown, out-CType}
+use Rattle.std.specs.Prelude.{ℕ, zero, suc, Bool, true, false, ◌+◌, ◌-◌, ◌==◌, ◌&&◌, ◌||◌, nat_lt, not, if◌then◌else◌, is_some, Option, Some, None, length, List, [], slice_get, slice_set}
+use Rattle.c_types.specs.declared.ctype.CType.{CType, out-CType}
 use Rattle.c_types.specs.declared.ctype.CType.TheOpen.{CType-F}
 use Rattle.c_types.specs.declared.tag.Tag.{Tag}
 use Rattle.c_types.specs.declared.tag.TheConstants.{NO_BODY}
@@ -11,21 +11,19 @@ use Rattle.c_words.specs.declared.word.Word.TheVariants as words
 use Rattle.c_words.specs.declared.word.TagWord.{TagWord}
 use Rattle.c_words.specs.declared.word.TagWord.TheVariants as tag_words
 use Rattle.c_scopes.specs.Seen.{Declared, with_declaration, with_tags, tag_type, kind_of}
-use Rattle.c_scopes.specs.declared.declaration.Declaration.{Declaration}
 use Rattle.c_scopes.specs.declared.declaration.Entity.{Entity}
 use Rattle.c_scopes.specs.declared.declaration.Entity.TheVariants as entities
-use Rattle.c_scopes.specs.declared.declaration.NameKind.{NameKind}
 use Rattle.c_scopes.specs.declared.declaration.NameKind.TheVariants as kinds
 use Rattle.c_reader.specs.declared.next.Next.{Next}
 use Rattle.c_reader.specs.declared.next.Next.TheVariants.{Done, More}
 use Rattle.c_reader.specs.Repeat.{repeated}
-use Rattle.c_reader.specs.Marks.{is_name, is_comma, is_open_brace, is_close_paren, is_semicolon, is_star}
+use Rattle.c_reader.specs.Marks.{is_assign, is_name, is_comma, is_close_paren, is_open_paren, is_semicolon, is_star}
 use Rattle.c_reader.specs.Specifiers.{is_typedef_kind, tag_index, tag_bytes, tag_place}
 use Rattle.c_decls.specs.declared.ends.Stop.TheVariants as stops
 use Rattle.c_decls.specs.declared.ends.Uncovered.{Uncovered}
 use Rattle.c_decls.specs.declared.hiding.Hidden.{Hidden}
 use Rattle.c_reader.specs.Attributes.{attributes_at}
-use Rattle.c_decls.specs.Ends.{body_index, has_body, level_end, opens_block, uncovered_at}
+use Rattle.c_decls.specs.Ends.{body_index, closes, has_body, level_end, opens_block, tag_kind}
 
 -- ---- one declaration more
 
@@ -107,8 +105,7 @@ abbrev pub behind_block : File → ℕ → ℕ
 behind_block f i = if opens_block f i then past_group f i else i + 1
 
 abbrev pub body_hidden : File → ℕ → TagWord → ℕ → Declared → Hiding
-body_hidden f to kind i seen =
-    if has_body f i then More (hidden_body f (start_at f i) to kind i seen) (body_index f i + 1) else More seen (i + 1)
+body_hidden f to kind i seen = More (if has_body f i then hidden_body f (start_at f i) to kind i seen else seen) (i + 1)
 
 abbrev bodies_by : File → ℕ → ℕ → Declared → Word → Hiding
 bodies_by f to i seen (words.Tag kind) = body_hidden f to kind i seen
@@ -146,15 +143,25 @@ hidden_at f h i seen = declared (bytes_at f i) (hidden_entity f h.first) None (s
 abbrev pub is_sealed : File → Hidden → ℕ → Bool
 is_sealed f h i = elim h.braces [ None ↦ false | Some b ↦ (b == i) && (is_close_paren (word_at f (i - 1)) || is_semicolon (word_at f (i - 1))) ]
 
--- a body hides what it declares
+-- a body hides what it declares, and so do bodies in the attributes before its tag
 abbrev pub tag_hidden : File → Hidden → TagWord → ℕ → Declared → Hiding
 tag_hidden f h kind i seen =
-    if has_body f i then More (hidden_body f (start_at f h.first) h.to kind i seen) (body_index f i + 1) else More seen (body_index f i)
+    let now = hidden_bodies f h.to (i + 1) (tag_index f i) seen in
+    if has_body f i then More (hidden_body f (start_at f h.first) h.to kind i now) (body_index f i + 1) else More now (body_index f i)
 
--- Each name is hidden, a typedef name where a star stands directly before it.
+abbrev pub is_qualifier : Word → Bool
+is_qualifier words.Qualifier = true
+is_qualifier _ = false
+
+-- a star stands before the index, qualifiers between them aside
+unfoldable pub follows_star : File → ℕ → Bool
+follows_star f zero = false
+follows_star f (suc i) = if is_qualifier (word_at f i) then follows_star f i else is_star (word_at f i)
+
+-- Each name is hidden, a typedef name where a star stands before it.
 abbrev pub name_hidden : File → Hidden → ℕ → Declared → Hiding
 name_hidden f h i seen =
-    if was_typedef f h i seen && not (is_star (word_at f (i - 1))) then More seen (i + 1) else More (hidden_at f h i seen) (i + 1)
+    if was_typedef f h i seen && not (follows_star f i) then More seen (i + 1) else More (hidden_at f h i seen) (i + 1)
 
 -- the index behind a block in a statement expression, or behind the function's body at which the declaration ends; else behind the token
 abbrev pub behind_blocks : File → Hidden → ℕ → ℕ
@@ -187,10 +194,31 @@ abbrev pub declarator_hidden : File → Hidden → ℕ → Declared → Hiding
 declarator_hidden f h i seen =
     if was_typedef f h i seen && not (is_followed f (i + 1)) then More (hidden_at f h i seen) (i + 1) else More seen (i + 1)
 
+-- the parenthesis at the index opens parameters: it stands behind the name or the brackets of a declarator
+abbrev pub opens_parameters : File → Hidden → ℕ → Declared → Bool
+opens_parameters f h i seen =
+    if is_name (word_at f (i - 1)) then not (was_typedef f h (i - 1) seen || is_some (tag_kind (word_at f (i - 2)))) else closes (word_at f (i - 1))
+
+-- the typedef name directly behind the parenthesis at the index is what the declaration declares, as `T` in `_Atomic int (T);`
+abbrev pub declares_inside : File → Hidden → ℕ → Declared → Bool
+declares_inside f h i seen =
+    is_name (word_at f (i + 1)) && was_typedef f h (i + 1) seen && not (opens_parameters f h i seen || is_followed f (past_group f i))
+
+abbrev pub parenthesis_hidden : File → Hidden → ℕ → Declared → Hiding
+parenthesis_hidden f h i seen =
+    if declares_inside f h i seen then More (hidden_at f h (i + 1) seen) (past_group f i) else More seen (past_group f i)
+
+-- in an initialiser no name is declared
+abbrev outer_mark : File → Hidden → ℕ → Declared → Word → Hiding
+outer_mark f h i seen w =
+    if is_open_paren w then parenthesis_hidden f h i seen
+    else if is_assign w then More seen (level_end f stops.Comma (i + 1))
+    else More seen (past_group f i)
+
 abbrev outer_by : File → Hidden → ℕ → Declared → Word → Hiding
 outer_by f h i seen (words.Tag kind) = More seen (behind_body f i)
 outer_by f h i seen words.Name = declarator_hidden f h i seen
-outer_by f h i seen w = More seen (past_group f i)
+outer_by f h i seen w = outer_mark f h i seen w
 
 unfoldable pub outer_step : File → Hidden → ℕ → Declared → Hiding
 outer_step f h i seen = if nat_lt i h.end then outer_by f h i seen (word_at f i) else Done seen
@@ -204,7 +232,8 @@ last_of f brace = past_group f brace - 1
 
 abbrev pub tag_sealed : File → ℕ → ℕ → Declared → Declared
 tag_sealed f brace i seen =
-    if has_body f i then hidden_tag_at f (start_at f brace) (end_at f (last_of f brace)) (tag_index f i) seen else seen
+    let now = hidden_bodies f (end_at f (last_of f brace)) (i + 1) (tag_index f i) seen in
+    if has_body f i then hidden_tag_at f (start_at f brace) (end_at f (last_of f brace)) (tag_index f i) now else now
 
 abbrev pub name_sealed : File → ℕ → ℕ → Declared → Declared
 name_sealed f brace i seen = hidden_name (bytes_at f i) (start_at f brace) (end_at f (last_of f brace)) seen

@@ -1,14 +1,14 @@
 -- What begins in a block or at file level: declarations, labels, statements (C11 6.8.2, 6.9; GNU C's extensions).
 use Rattle.std.specs.Prelude.{ℕ, Bool, true, false, ◌+◌, ◌&&◌, ◌||◌, not, if◌then◌else◌, is_some, length}
 use Rattle.c_words.specs.File.{File}
-use Rattle.c_words.specs.Words.{word_at, bytes_at, start_at, is_name_at}
+use Rattle.c_words.specs.Words.{word_at, bytes_at, start_at, is_name_at, past_group}
 use Rattle.c_words.specs.declared.word.Word.{Word}
 use Rattle.c_words.specs.declared.word.Word.TheVariants as words
 use Rattle.c_scopes.specs.Seen.{Declared, kind_of, visible_type}
 use Rattle.c_reader.specs.declared.next.Next.{Next}
 use Rattle.c_reader.specs.declared.next.Next.TheVariants.{Done, More}
 use Rattle.c_reader.specs.Repeat.{repeated}
-use Rattle.c_reader.specs.Marks.{is_colon, is_open_paren, is_semicolon, is_star}
+use Rattle.c_reader.specs.Marks.{is_colon, is_open_bracket, is_open_paren, is_semicolon, is_star}
 use Rattle.c_reader.specs.Attributes.{attributes_at}
 use Rattle.c_reader.specs.Specifiers.{begins_specifier}
 use Rattle.c_decls.specs.declared.items.Item.{Item}
@@ -38,13 +38,22 @@ attribute_item f i = if is_attribute_statement f i then items.Statement else ite
 abbrev pub specifier_item : File → Declared → ℕ → Item
 specifier_item f seen i = if begins_specifier f seen i then items.Declaration else items.Statement
 
+-- the name has no type there: it isn't declared, or what it means isn't known
+abbrev pub is_untyped : File → Declared → ℕ → Bool
+is_untyped f seen i = not (is_some (visible_type seen (bytes_at f i) (start_at f i)))
+
 -- the name is declared without a type
 abbrev pub is_hidden : File → Declared → ℕ → Bool
-is_hidden f seen i = is_some (kind_of seen (bytes_at f i) (start_at f i)) && not (is_some (visible_type seen (bytes_at f i) (start_at f i)))
+is_hidden f seen i = is_some (kind_of seen (bytes_at f i) (start_at f i)) && is_untyped f seen i
 
--- A name may be hidden for longer than its scope, and stand for a typedef name again: with a star or a parenthesis behind it it may declare.
+-- a parenthesis behind the name at the index goes with a declarator, or with what stands before one: a name follows it
+abbrev pub opens_declarator : File → Declared → ℕ → Bool
+opens_declarator f seen i = is_open_paren (word_at f (i + 1)) && (is_hidden f seen i || is_name_at f (past_group f (i + 1)))
+
+-- A name without a type may stand for a type: one that is a compiler's own, or a typedef name that was hidden for longer than its
+-- scope. With a star or a parenthesis behind it it may declare.
 abbrev pub may_declare : File → Declared → ℕ → Bool
-may_declare f seen i = (is_star (word_at f (i + 1)) || is_open_paren (word_at f (i + 1))) && is_hidden f seen i
+may_declare f seen i = (is_star (word_at f (i + 1)) && is_untyped f seen i) || opens_declarator f seen i
 
 abbrev pub name_item : File → Declared → ℕ → Item
 name_item f seen i =
@@ -61,8 +70,21 @@ item_by f seen i words.Attribute = attribute_item f i
 item_by f seen i words.Name = name_item f seen i
 item_by f seen i w = specifier_item f seen i
 
-abbrev item_behind : File → Declared → ℕ → Item
+abbrev pub item_behind : File → Declared → ℕ → Item
 item_behind f seen i = item_by f seen i (word_at f i)
 
+-- two brackets open at the index: an attribute of C23 (6.7.12.1 there)
+abbrev pub opens_attribute : File → ℕ → Bool
+opens_attribute f i = is_open_bracket (word_at f i) && is_open_bracket (word_at f (i + 1))
+
+-- Such attributes aren't covered, nor is the declaration that they begin.
+abbrev pub attributed : Item → Item
+attributed items.Statement = items.Statement
+attributed item = items.Uncovered
+
+abbrev pub item_or_attributed : File → Declared → ℕ → Item
+item_or_attributed f seen i =
+    if opens_attribute f i then attributed (item_behind f seen (past_group f i)) else item_behind f seen i
+
 unfoldable pub item_at : File → Declared → ℕ → Item
-item_at f seen i = item_behind f seen (behind_extensions f i)
+item_at f seen i = item_or_attributed f seen (behind_extensions f i)

@@ -103,14 +103,14 @@ declared_again f to s r (Some d) = member_declared f to s r d
 abbrev pub declarator_in : File → ℕ → Specifiers → ℕ → Declared → Option Declarator
 declarator_in f depth s j seen = declarator_at f seen (inner f seen depth) Declaration Named s.ctype j
 
--- The tags in a declarator are declared before its type is known. What a body in it declares is seen in parameters alone (6.2.1, 4), and is hidden.
+-- The tags in a declarator and in the attributes behind it are declared before its type is known. What a body in it declares is seen in parameters alone (6.2.1, 4), and is hidden.
 abbrev pub tags_within : File → ℕ → Bodies → ℕ → ℕ → Declared → Declared
 tags_within f to body j end seen = hidden_bodies f to j end (named_tags f to body j end seen)
 
 abbrev with_tags_in : File → ℕ → ℕ → Bodies → Specifiers → ℕ → Found → Option Declarator → Reading
 with_tags_in f to depth body s j r None = Done (read r.seen (uncovered r.found))
 with_tags_in f to depth body s j r (Some d) =
-    let seen = tags_within f to body j d.end r.seen in
+    let seen = tags_within f to body j (asked_of f s d).end r.seen in
     declared_again f to s (read seen r.found) (declarator_in f depth s j seen)
 
 unfoldable pub member_step : File → ℕ → ℕ → Bodies → Specifiers → ℕ → Found → Reading
@@ -218,11 +218,15 @@ covered_or_unknown f to i r =
 abbrev with_appended : Members → ℕ → Found → Reading
 with_appended before next r = More (read r.seen (appended before r.found)) next
 
+-- a static assertion declares nothing, and hides what bodies in it do
+abbrev pub assertion_passed : File → ℕ → ℕ → Found → Reading
+assertion_passed f to i r = More (read (hidden_bodies f to i (behind_semicolon f i) r.seen) r.found) (behind_semicolon f i)
+
 unfoldable pub members_step : File → ℕ → ℕ → Bodies → ℕ → Found → Reading
 members_step f to depth body i r =
     if closes (word_at f i) then Done r
     else if is_semicolon (word_at f i) then More r (i + 1)
-    else if is_static_assert (word_at f i) then More r (behind_semicolon f i)
+    else if is_static_assert (word_at f i) then assertion_passed f to i r
     else with_appended r.found (behind_semicolon f i) (covered_or_unknown f to i (member_declaration f to depth body i r.seen))
 
 abbrev pub found_at_end : ℕ → Found → Found

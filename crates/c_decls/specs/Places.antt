@@ -1,5 +1,5 @@
 -- Where the walk through a file stands.
-use Rattle.std.specs.Prelude.{◌≡◌, ℕ, Bool, true, false, ◌+◌, ◌-◌, ◌==◌, if◌then◌else◌, Option, Some, None, length, List, [], ◌∷◌, ◌++◌, take, slice_get}
+use Rattle.std.specs.Prelude.{ℕ, Bool, false, ◌+◌, ◌-◌, ◌==◌, if◌then◌else◌, Option, Some, None, length, List, [], ◌∷◌, ◌++◌, take, slice_get}
 use Rattle.c_words.specs.File.{File}
 use Rattle.c_words.specs.Words.{end_at, past_group}
 use Rattle.c_decls.specs.declared.declaring.Ending.{Ending}

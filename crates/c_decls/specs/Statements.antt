@@ -1,13 +1,12 @@
 -- Where statements end (C11 6.8).
-use Rattle.std.specs.Prelude.{ℕ, zero, suc, Bool, true, false, ◌+◌, ◌-◌, ◌==◌, ◌&&◌, ◌||◌, nat_eq, codes, if◌then◌else◌, List, [], ◌∷◌, ◌++◌, length, slice_index_or}
+use Rattle.std.specs.Prelude.{ℕ, Bool, ◌+◌, ◌-◌, ◌&&◌, nat_eq, codes, if◌then◌else◌, List, [], ◌∷◌, slice_index_or}
 use Rattle.std.specs.Cmp.Lexicographic.{pointwise}
 use Rattle.c_words.specs.File.{File}
 use Rattle.c_words.specs.Words.{word_at, bytes_at, past_group}
-use Rattle.c_words.specs.declared.word.Word.{Word}
 use Rattle.c_words.specs.declared.word.Word.TheVariants as words
 use Rattle.c_words.specs.declared.punct.Punct.{Punct}
 use Rattle.c_words.specs.declared.punct.Punct.TheVariants as puncts
-use Rattle.c_reader.specs.Marks.{is_open_paren, is_colon, is_semicolon}
+use Rattle.c_reader.specs.Marks.{is_open_paren, is_colon}
 use Rattle.c_decls.specs.declared.ends.Stop.TheVariants as stops
 use Rattle.c_decls.specs.Ends.{behind_case, behind_semicolon, level_end}
 use Rattle.c_tokens.specs.declared.token.Token.{Token}

@@ -98,14 +98,15 @@ tag_named f to kind i j seen = if is_name (word_at f j) then More (referred f to
 
 abbrev pub tag_found : File → ℕ → Bodies → TagWord → ℕ → Declared → Hiding
 tag_found f to body kind i seen =
-    if has_body f i then More (body kind i seen) (past_group f (body_index f i)) else tag_named f to kind i (tag_index f i) seen
+    let now = hidden_bodies f to (i + 1) (tag_index f i) seen in
+    if has_body f i then More (body kind i now) (past_group f (body_index f i)) else tag_named f to kind i (tag_index f i) now
 
--- in brackets and behind `typeof` stand expressions
+-- in brackets, in attributes and behind `typeof` stand expressions
 abbrev pub expression_passed : File → ℕ → ℕ → Declared → Hiding
 expression_passed f to bracket seen = More (hidden_bodies f to (bracket + 1) (past_group f bracket) seen) (past_group f bracket)
 
-abbrev pub typeof_passed : File → ℕ → ℕ → Declared → Hiding
-typeof_passed f to i seen = if is_open_paren (word_at f (i + 1)) then expression_passed f to (i + 1) seen else More seen (i + 1)
+abbrev pub word_passed : File → ℕ → ℕ → Declared → Hiding
+word_passed f to i seen = if is_open_paren (word_at f (i + 1)) then expression_passed f to (i + 1) seen else More seen (i + 1)
 
 -- the index behind a word and the parentheses that may follow it
 abbrev pub behind_word : File → ℕ → ℕ
@@ -113,8 +114,8 @@ behind_word f i = if is_open_paren (word_at f (i + 1)) then past_group f (i + 1)
 
 abbrev tags_by : File → ℕ → Bodies → ℕ → Declared → Word → Hiding
 tags_by f to body i seen (words.Tag kind) = tag_found f to body kind i seen
-tags_by f to body i seen words.Typeof = typeof_passed f to i seen
-tags_by f to body i seen words.Attribute = More seen (behind_word f i)
+tags_by f to body i seen words.Typeof = word_passed f to i seen
+tags_by f to body i seen words.Attribute = word_passed f to i seen
 tags_by f to body i seen words.Asm = More seen (behind_word f i)
 tags_by f to body i seen w = if is_open_bracket w then expression_passed f to i seen else More seen (i + 1)
 

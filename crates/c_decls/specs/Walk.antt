@@ -1,12 +1,12 @@
 -- What is declared in a file, from its first token to its last.
-use Rattle.std.specs.Prelude.{◌≡◌, ℕ, Bool, true, false, ◌+◌, ◌-◌, ◌==◌, ◌&&◌, nat_lt, if◌then◌else◌, Option, Some, None, length, List}
+use Rattle.std.specs.Prelude.{ℕ, ◌+◌, ◌-◌, ◌==◌, ◌&&◌, nat_lt, if◌then◌else◌, Option, Some, None, length}
 use Rattle.c_words.specs.File.{File}
 use Rattle.c_words.specs.Words.{word_at, end_at, past_group}
 use Rattle.c_words.specs.declared.word.Word.{Word}
 use Rattle.c_words.specs.declared.word.Word.TheVariants as words
 use Rattle.c_scopes.specs.Seen.{Declared, no_declarations}
 use Rattle.c_reader.specs.declared.next.Next.{Next}
-use Rattle.c_reader.specs.declared.next.Next.TheVariants.{Done, More}
+use Rattle.c_reader.specs.declared.next.Next.TheVariants.{More}
 use Rattle.c_reader.specs.Repeat.{repeated}
 use Rattle.c_reader.specs.Marks.{is_colon, is_semicolon, is_name, is_open_brace, is_open_paren}
 use Rattle.c_decls.specs.declared.declaring.Ending.{Ending}
@@ -21,7 +21,7 @@ use Rattle.c_decls.specs.Ends.{behind_case, behind_semicolon}
 use Rattle.c_decls.specs.Statements.{behind_head, statement_end}
 use Rattle.c_decls.specs.Hiding.{hidden_bodies}
 use Rattle.c_decls.specs.Declarations.{declaration_or_hidden, hidden_declaration}
-use Rattle.c_decls.specs.Items.{item_at}
+use Rattle.c_decls.specs.Items.{item_at, opens_attribute}
 use Rattle.c_decls.specs.Places.{at_item, beginning, block_entered, is_sealed, last_frame, left, moved, passing}
 
 -- What is seen, and where reading stands: the blocks that are open, and the index at which the next item begins; the tokens before it
@@ -73,12 +73,18 @@ for_begun f to i at =
     if is_open_paren (word_at f (i + 1)) then first_part f to i at (item_at f at.seen (i + 2))
     else read at.seen (at_item (i + 1) at.found)
 
+-- an item begins again behind attributes of a statement, as behind a label
+abbrev pub attribute_begun : File → ℕ → ℕ → At → Item → At
+attribute_begun f to i at items.Statement = read at.seen (at_item (past_group f i) at.found)
+attribute_begun f to i at item = item_declared f to i at item
+
 -- what begins at the index in a block: an empty statement, a block, a label, a declaration or a statement
 abbrev pub other_begun : File → ℕ → ℕ → At → Word → At
 other_begun f to i at w =
     if is_semicolon w then read at.seen (at_item (i + 1) at.found)
     else if is_open_brace w then read at.seen (block_entered f i at.found)
     else if is_name w && is_colon (word_at f (i + 1)) then read at.seen (at_item (i + 2) at.found)
+    else if opens_attribute f i then attribute_begun f to i at (item_at f at.seen i)
     else item_declared f to i at (item_at f at.seen i)
 
 abbrev pub begun_by : File → ℕ → ℕ → At → Word → At

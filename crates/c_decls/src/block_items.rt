@@ -6,13 +6,13 @@ ghost use Rattle.c_decls.specs.Progress.{read};
 ghost use Rattle.c_decls.specs.Statements.{statement_ends};
 ghost use Rattle.c_decls.specs.Declarations.{StandsIn};
 ghost use Rattle.c_decls.specs.Items.{item_at};
-ghost use Rattle.c_decls.specs.Walk.{begun_by, declared_by, item_declared, other_begun, passed};
+ghost use Rattle.c_decls.specs.Walk.{attribute_begun, begun_by, declared_by, item_declared, other_begun, passed};
 
 use crate::declaring::{Ending, declare_hidden, declare_or_hide};
 use crate::ends::{behind_case, behind_semicolon};
 use crate::for_head::begin_for;
 use crate::hiding::hide_bodies;
-use crate::items::{Item, item_at};
+use crate::items::{Item, item_at, opens_attribute};
 use crate::place::Place;
 use crate::statements::behind_head;
 use asm_core::Memory;
@@ -95,6 +95,28 @@ fn begin_item(
     }
 }
 
+/// A declaration or a statement begins at the attributes of C23 at the index. An item begins again behind a statement's.
+fn begin_attributed(
+    alloc: Global,
+    source: &Source<'_>,
+    scopes: &mut Scopes,
+    place: &mut Place,
+    to: u32,
+    i: usize,
+    item: Item,
+) -> Result<(), Memory>
+    requires { i < 4294967296 }
+    ensures { IfOk result (λ _. read scopes.new place.new ≡ attribute_begun source.now to i (read scopes.old place.old) item) }
+{
+    match item {
+        Item::Statement => {
+            place.begin_item(source.past(i));
+            Ok(())
+        }
+        _ => begin_item(alloc, source, scopes, place, to, i, item),
+    }
+}
+
 /// What begins at the index in a block, with no keyword of a statement: an empty statement, a block, a label, a declaration or a statement.
 fn begin_other(
     alloc: Global,
@@ -120,6 +142,9 @@ fn begin_other(
         return Ok(());
     }
     let item = item_in(source, scopes, i);
+    if opens_attribute(source, i) {
+        return begin_attributed(alloc, source, scopes, place, to, i, item);
+    }
     begin_item(alloc, source, scopes, place, to, i, item)
 }
 

@@ -6,7 +6,7 @@ ghost use Rattle.c_reader.specs.declared.next.Next.TheVariants.{Done};
 ghost use Rattle.c_decls.specs.Progress.{read};
 ghost use Rattle.c_decls.specs.Declarations.{GoesOn, StandsIn, again, begins_body, behind_declarator, declarator_step, declarators_declared, declaring, initialised, next_declarator};
 
-use crate::declaring::{Ending, MOST_NESTING, declare_name};
+use crate::declaring::{Ending, MOST_NESTING, attributes_of, declare_name};
 use crate::ends::{Stop, level_end};
 use crate::hiding::hide_bodies;
 use crate::members::declarator_in;
@@ -134,8 +134,9 @@ fn declarator_step(
     let Some(d) = declarator_in(alloc, source, scopes, MOST_NESTING, s, j)? else {
         return Ok(Next::Done(Ending::Uncovered));
     };
-    name_tags_within(alloc, source, scopes, to, MOST_NESTING, j, d.end)?;
-    hide_bodies(alloc, source, scopes, to, j, d.end)?;
+    let end = attributes_of(source, s, &d).end;
+    name_tags_within(alloc, source, scopes, to, MOST_NESTING, j, end)?;
+    hide_bodies(alloc, source, scopes, to, j, end)?;
     declare_again(alloc, source, scopes, to, s, j)
 }
 

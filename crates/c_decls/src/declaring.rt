@@ -45,7 +45,7 @@ fn entity_of(s: &Specifiers) -> Entity
 }
 
 /// The attributes of the declaration and of the declarator, those behind it and its asm label among them.
-fn attributes_of(source: &Source<'_>, s: &Specifiers, d: &Declarator) -> Asked
+pub fn attributes_of(source: &Source<'_>, s: &Specifiers, d: &Declarator) -> Asked
     ensures is { result ≡ attributes_of source.now s.now d.now }
     ensures behind { d.now.end ≤ result.end }
 {

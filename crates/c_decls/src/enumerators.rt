@@ -155,6 +155,7 @@ fn enumerator_step(
     let word = source.word(i);
     if is_name(word) {
         let behind = attributes_at(source, i + 1).end;
+        hide_bodies(alloc, source, scopes, to, i + 1, behind)?;
         return enumerator_named(alloc, source, scopes, to, depth, i, behind, so_far);
     }
     if is_close_brace(word) {

@@ -237,11 +237,10 @@ fn body_passed(
     ensures is { IfOk result (λ next. going scopes.new next ≡ body_hidden source.now to kind i scopes.old) }
     ensures further { IfOk result (λ next. IfSome next (λ j. i < j)) }
 {
-    if !has_body(source, i) {
-        return Ok(Some(i + 1));
+    if has_body(source, i) {
+        hide_body(alloc, source, scopes, source.start(i), to, kind, i)?;
     }
-    hide_body(alloc, source, scopes, source.start(i), to, kind, i)?;
-    Ok(Some(body_index(source, i) + 1))
+    Ok(Some(i + 1))
 }
 
 /// One token of those in which bodies hide their names. The index at which to go on, `None` from the index `end` on.

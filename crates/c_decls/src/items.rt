@@ -2,9 +2,9 @@
 
 ghost use Rattle.std.specs.Prelude.{◌≡◌, ◌<◌, ◌≤◌, length};
 ghost use Rattle.c_words.specs.Words.{word_at};
-ghost use Rattle.c_decls.specs.Items.{attribute_item, behind_extensions, item_at, is_extension, is_hidden, item_by, may_declare, name_item, specifier_item};
+ghost use Rattle.c_decls.specs.Items.{attribute_item, attributed, behind_extensions, is_extension, is_hidden, is_untyped, item_at, item_behind, item_by, item_or_attributed, may_declare, name_item, opens_attribute, opens_declarator, specifier_item};
 
-use c_reader::marks::{is_colon, is_open_paren, is_semicolon, is_star};
+use c_reader::marks::{is_colon, is_open_bracket, is_open_paren, is_semicolon, is_star};
 use c_reader::{Reader, attributes_at};
 use c_scopes::{name_kind, visible};
 use c_words::{Source, Word};
@@ -63,22 +63,38 @@ fn specifier_item(reader: &Reader<'_>, i: usize) -> Item
     }
 }
 
+/// Whether the name at the index has no type: it isn't declared, or what it means isn't known.
+fn is_untyped(reader: &Reader<'_>, i: usize) -> bool
+    ensures { result ≡ is_untyped reader.now.source.now reader.now.scopes.now i }
+{
+    let source = reader.source;
+    visible(reader.scopes, source.bytes(i), source.start(i)).is_none()
+}
+
 /// Whether the name at the index is declared without a type.
 fn is_hidden(reader: &Reader<'_>, i: usize) -> bool
     ensures { result ≡ is_hidden reader.now.source.now reader.now.scopes.now i }
 {
-    let name = reader.source.bytes(i);
-    let place = reader.source.start(i);
-    name_kind(reader.scopes, name, place).is_some() && visible(reader.scopes, name, place).is_none()
+    let source = reader.source;
+    name_kind(reader.scopes, source.bytes(i), source.start(i)).is_some() && is_untyped(reader, i)
 }
 
-/// Whether the name at the index, which is no typedef name, may be one again and declare what stands behind it.
+/// Whether a parenthesis behind the name at the index goes with a declarator, or with what stands before one.
+fn opens_declarator(reader: &Reader<'_>, i: usize) -> bool
+    requires { i < 4294967296 }
+    ensures { result ≡ opens_declarator reader.now.source.now reader.now.scopes.now i }
+{
+    let source = reader.source;
+    is_open_paren(source.word(i + 1))
+        && (is_hidden(reader, i) || source.is_name_token(source.past(i + 1)))
+}
+
+/// Whether the name at the index, which is no typedef name, may stand for a type and declare what stands behind it.
 fn may_declare(reader: &Reader<'_>, i: usize) -> bool
     requires { i < 4294967296 }
     ensures { result ≡ may_declare reader.now.source.now reader.now.scopes.now i }
 {
-    let next = reader.source.word(i + 1);
-    (is_star(next) || is_open_paren(next)) && is_hidden(reader, i)
+    (is_star(reader.source.word(i + 1)) && is_untyped(reader, i)) || opens_declarator(reader, i)
 }
 
 /// What begins with the name at the index.
@@ -99,17 +115,46 @@ fn name_item(reader: &Reader<'_>, i: usize) -> Item
     }
 }
 
-/// What begins at the index: a declaration where a specifier stands behind `__extension__`s; one that isn't covered where a word of
-/// such ones stands there, two names, of which the first is no keyword, or a hidden name that may declare; else a statement or a label.
-#[tactic(auto, unfolding(crate::specs::Items::item_at))]
-pub fn item_at(reader: &Reader<'_>, first: usize) -> Item
-    ensures { result ≡ item_at reader.now.source.now reader.now.scopes.now first }
+/// Whether two brackets open at the index, as at an attribute of C23 (6.7.12.1 there).
+pub fn opens_attribute(source: &Source<'_>, i: usize) -> bool
+    ensures { result ≡ opens_attribute source.now i }
 {
-    let i = behind_extensions(reader.source, first);
+    is_open_bracket(source.word(i)) && is_open_bracket(source.word(i + 1))
+}
+
+/// What begins at an attribute of C23, which isn't covered, before such an item.
+fn attributed(item: Item) -> Item
+    ensures { result ≡ attributed item }
+{
+    match item {
+        Item::Statement => Item::Statement,
+        Item::Declaration | Item::Uncovered => Item::Uncovered,
+    }
+}
+
+/// What begins at the index, where neither `__extension__` nor an attribute of C23 stands: a declaration where a specifier does; one that
+/// isn't covered where a word of such ones stands, two names, of which the first is no keyword, or a name without a type that may
+/// declare; else a statement or a label.
+fn item_behind(reader: &Reader<'_>, i: usize) -> Item
+    ensures { result ≡ item_behind reader.now.source.now reader.now.scopes.now i }
+{
     match reader.source.word(i) {
         Word::Uncovered => Item::Uncovered,
         Word::Attribute => attribute_item(reader.source, i),
         Word::Name => name_item(reader, i),
         _ => specifier_item(reader, i),
     }
+}
+
+/// What begins at the index, behind its `__extension__`s.
+#[tactic(auto, unfolding(crate::specs::Items::item_at))]
+pub fn item_at(reader: &Reader<'_>, first: usize) -> Item
+    ensures { result ≡ item_at reader.now.source.now reader.now.scopes.now first }
+{
+    let source = reader.source;
+    let i = behind_extensions(source, first);
+    if opens_attribute(source, i) {
+        return attributed(item_behind(reader, source.past(i)));
+    }
+    item_behind(reader, i)
 }

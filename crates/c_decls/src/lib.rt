@@ -16,6 +16,7 @@ mod member_declarators;
 mod members;
 mod parameters;
 mod place;
+mod redeclared;
 mod sealed;
 mod statements;
 mod tag_declarations;

@@ -165,6 +165,7 @@ fn members_step(
     }
     let next = behind_semicolon(source, i);
     if matches!(word, Word::StaticAssert) {
+        hide_bodies(alloc, source, scopes, to, i, next)?;
         return Ok(Next::More(members, next));
     }
     let read = read_declaration(alloc, source, scopes, to, depth, i)?;

@@ -106,8 +106,9 @@ fn member_step(
     let Some(first) = declarator_in(alloc, source, scopes, depth, specifiers, i)? else {
         return Ok(Next::Done(members.uncovered()));
     };
-    name_tags_within(alloc, source, scopes, to, depth, i, first.end)?;
-    hide_bodies(alloc, source, scopes, to, i, first.end)?;
+    let end = asked_of(source, specifiers, &first).end;
+    name_tags_within(alloc, source, scopes, to, depth, i, end)?;
+    hide_bodies(alloc, source, scopes, to, i, end)?;
     match declarator_in(alloc, source, scopes, depth, specifiers, i)? {
         Some(declarator) => declare_member(
             alloc, source, scopes, to, specifiers, members, declarator,

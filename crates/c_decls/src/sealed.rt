@@ -5,7 +5,7 @@ ghost use Rattle.c_decls.specs.Progress.{going};
 ghost use Rattle.c_decls.specs.Hiding.{hidden_sealed, last_of, name_sealed, sealed_step, tag_sealed};
 
 use crate::ends::{body_index, has_body};
-use crate::hiding::{hide_name, hide_tag_at};
+use crate::hiding::{hide_bodies, hide_name, hide_tag_at};
 use asm_core::Memory;
 use c_reader::attributes_at;
 use c_scopes::Scopes;
@@ -30,11 +30,12 @@ fn hide_tag_in(
     requires { i < 4294967296 }
     ensures { IfOk result (λ _. scopes.new ≡ tag_sealed source.now brace i scopes.old) }
 {
+    let tag = attributes_at(source, i + 1).end;
+    let to = source.end(last_of(source, brace));
+    hide_bodies(alloc, source, scopes, to, i + 1, tag)?;
     if !has_body(source, i) {
         return Ok(());
     }
-    let tag = attributes_at(source, i + 1).end;
-    let to = source.end(last_of(source, brace));
     hide_tag_at(alloc, source, scopes, source.start(brace), to, tag)
 }
 

@@ -3,7 +3,7 @@
 ghost use Rattle.std.specs.Prelude.{◌≡◌, ◌<◌, IfOk, IfSome, length};
 ghost use Rattle.c_reader.specs.declared.next.Next.TheVariants.{More};
 ghost use Rattle.c_decls.specs.Progress.{going};
-ghost use Rattle.c_decls.specs.Tags.{behind_word, expression_passed, named_tags, tag_found, tag_named, tags_step, typeof_passed};
+ghost use Rattle.c_decls.specs.Tags.{behind_word, expression_passed, named_tags, tag_found, tag_named, tags_step, word_passed};
 ghost use Rattle.c_decls.specs.Bodies.{body_declared};
 
 use crate::bodies::declare_body;
@@ -54,11 +54,12 @@ fn declare_tag(
     ensures is { IfOk result (λ next. More scopes.new next ≡ tag_found source.now to (body_declared source.now to depth) kind i scopes.old) }
     ensures further { IfOk result (λ next. i < next) }
 {
+    let tag = attributes_at(source, i + 1).end;
+    hide_bodies(alloc, source, scopes, to, i + 1, tag)?;
     if has_body(source, i) {
         declare_body(alloc, source, scopes, to, depth, kind, i)?;
         return Ok(source.past(body_index(source, i)));
     }
-    let tag = attributes_at(source, i + 1).end;
     declare_named(alloc, source, scopes, to, kind, i, tag)
 }
 
@@ -79,8 +80,8 @@ fn pass_expression(
     Ok(past)
 }
 
-/// Passes over `typeof` at the index.
-fn pass_typeof(
+/// Passes over the word at the index and the parentheses that may follow it, in which an expression stands.
+fn pass_word(
     alloc: Global,
     source: &Source<'_>,
     scopes: &mut Scopes,
@@ -88,7 +89,7 @@ fn pass_typeof(
     i: usize,
 ) -> Result<usize, Memory>
     requires { i < 4294967296 }
-    ensures is { IfOk result (λ next. More scopes.new next ≡ typeof_passed source.now to i scopes.old) }
+    ensures is { IfOk result (λ next. More scopes.new next ≡ word_passed source.now to i scopes.old) }
     ensures further { IfOk result (λ next. i < next) }
 {
     if is_open_paren(source.word(i + 1)) {
@@ -129,8 +130,8 @@ fn tags_step(
     }
     let next = match source.word(i) {
         Word::Tag(kind) => declare_tag(alloc, source, scopes, to, depth, kind, i)?,
-        Word::Typeof => pass_typeof(alloc, source, scopes, to, i)?,
-        Word::Attribute | Word::Asm => behind_word(source, i),
+        Word::Typeof | Word::Attribute => pass_word(alloc, source, scopes, to, i)?,
+        Word::Asm => behind_word(source, i),
         Word::Punct(Punct::OpenBracket) => pass_expression(alloc, source, scopes, to, i)?,
         _ => i + 1,
     };

@@ -3,7 +3,9 @@ mod rows;
 use super::*;
 use c_tokens::tokens;
 use c_types::{CType, Tags, size_of};
-use rows::{ATTRIBUTES, DECLARATORS, ENUMERATIONS, Row, SCOPES, SPECIFIERS, STRUCTS, UNCOVERED};
+use rows::{
+    ATTRIBUTES, BODIES, DECLARATORS, ENUMERATIONS, Row, SCOPES, SPECIFIERS, STRUCTS, UNCOVERED,
+};
 use std::alloc::{AllocError, Global};
 use std::process::Abort;
 use std::test::Fail;
@@ -155,7 +157,8 @@ fn names_mean_what_they_are_declared_as(rt: HostRuntime) -> Result<(), Fail> {
     assert_rows(&rt, alloc, &SCOPES)?;
     assert_rows(&rt, alloc, &STRUCTS)?;
     assert_rows(&rt, alloc, &ENUMERATIONS)?;
-    assert_rows(&rt, alloc, &UNCOVERED)
+    assert_rows(&rt, alloc, &UNCOVERED)?;
+    assert_rows(&rt, alloc, &BODIES)
 }
 
 /// A made file in the style of a preprocessor's output, shortened.

@@ -2,10 +2,11 @@
 
 ghost use Rattle.std.specs.Prelude.{◌≡◌, ◌+◌, ◌<◌, ◌≤◌, length, IfOk, IfSome};
 ghost use Rattle.c_decls.specs.Progress.{going};
-ghost use Rattle.c_decls.specs.Hiding.{behind_blocks, behind_body, declarator_hidden, hidden_at, hidden_by, hidden_entity, hidden_inside, hidden_names, hidden_outer_names, is_followed, is_sealed, is_typedef_near, is_typedef_word, name_hidden, names_step, outer_step, tag_hidden, was_typedef};
+ghost use Rattle.c_decls.specs.Hiding.{behind_blocks, follows_star, hidden_at, hidden_by, hidden_entity, hidden_inside, hidden_names, is_qualifier, is_sealed, is_typedef_near, is_typedef_word, name_hidden, names_step, tag_hidden, was_typedef};
 
 use crate::ends::{body_index, has_body, opens_block};
-use crate::hiding::{Hidden, declare, hide_body};
+use crate::hiding::{Hidden, declare, hide_bodies, hide_body};
+use crate::redeclared::hide_outer_names;
 use crate::sealed::hide_sealed;
 use asm_core::Memory;
 use c_reader::attributes_at;
@@ -43,7 +44,7 @@ fn hidden_entity(source: &Source<'_>, first: usize) -> Entity
 }
 
 /// Whether the name at the index is a typedef name where the declaration begins.
-fn was_typedef(source: &Source<'_>, scopes: &Scopes, h: Hidden, i: usize) -> bool
+pub fn was_typedef(source: &Source<'_>, scopes: &Scopes, h: Hidden, i: usize) -> bool
     ensures { result ≡ was_typedef source.now h i scopes.now }
 {
     matches!(
@@ -53,7 +54,7 @@ fn was_typedef(source: &Source<'_>, scopes: &Scopes, h: Hidden, i: usize) -> boo
 }
 
 /// Hides the name at the index from the declaration's first token on.
-fn hide_at(
+pub fn hide_at(
     alloc: Global,
     source: &Source<'_>,
     scopes: &mut Scopes,
@@ -107,6 +108,8 @@ fn hide_tagged(
     ensures is { IfOk result (λ next. going scopes.new next ≡ tag_hidden source.now h kind i scopes.old) }
     ensures further { IfOk result (λ next. IfSome next (λ j. i < j)) }
 {
+    let tag = attributes_at(source, i + 1).end;
+    hide_bodies(alloc, source, scopes, h.to, i + 1, tag)?;
     let body = body_index(source, i);
     if !has_body(source, i) {
         return Ok(Some(body));
@@ -115,7 +118,28 @@ fn hide_tagged(
     Ok(Some(body + 1))
 }
 
-/// Hides the name at the index, a typedef name where a star stands directly before it. The index at which to go on.
+fn is_qualifier(word: Word) -> bool
+    ensures { result ≡ is_qualifier word }
+{
+    matches!(word, Word::Qualifier)
+}
+
+/// Whether a star stands before the index, qualifiers between them aside.
+#[tactic(auto, using(crate::proofs::HidingLemmas::star_steps))]
+fn follows_star(source: &Source<'_>, i: usize) -> bool
+    ensures { result ≡ follows_star source.now i }
+{
+    let mut j = i;
+    while j > 0 {
+        j -= 1;
+        if !is_qualifier(source.word(j)) {
+            return is_star(source.word(j));
+        }
+    }
+    false
+}
+
+/// Hides the name at the index, a typedef name where a star stands before it. The index at which to go on.
 fn hide_named(
     alloc: Global,
     source: &Source<'_>,
@@ -128,7 +152,7 @@ fn hide_named(
     ensures is { IfOk result (λ next. going scopes.new next ≡ name_hidden source.now h i scopes.old) }
     ensures further { IfOk result (λ next. IfSome next (λ j. i < j)) }
 {
-    if was_typedef(source, scopes, h, i) && !is_star(source.word(i.saturating_sub(1))) {
+    if was_typedef(source, scopes, h, i) && !follows_star(source, i) {
         return Ok(Some(i + 1));
     }
     hide_at(alloc, source, scopes, h, i)?;
@@ -172,95 +196,6 @@ fn hide_names(
     let mut i = h.first;
     while i < source.len() {
         match names_step(alloc, source, scopes, h, i)? {
-            Some(next) => {
-                i = next;
-                continue;
-            }
-            None => return Ok(()),
-        }
-    }
-    Ok(())
-}
-
-/// Whether a name or a star stands at the index, an asm label and attributes aside.
-fn is_followed(source: &Source<'_>, i: usize) -> bool
-    ensures { result ≡ is_followed source.now i }
-{
-    let behind = attributes_at(source, source.behind_asm_label(i)).end;
-    source.is_name_token(behind) || is_star(source.word(behind))
-}
-
-/// The index behind the body that `struct`, `union` or `enum` at the index has, or behind its tag.
-fn behind_body(source: &Source<'_>, i: usize) -> usize
-    requires { i < 4294967296 }
-    ensures is { result ≡ behind_body source.now i }
-    ensures behind { i < result }
-{
-    let body = body_index(source, i);
-    if has_body(source, i) {
-        source.past(body)
-    } else {
-        body
-    }
-}
-
-/// Hides the typedef name at the index where neither a name nor a star follows it. The index at which to go on.
-fn hide_declarator(
-    alloc: Global,
-    source: &Source<'_>,
-    scopes: &mut Scopes,
-    h: Hidden,
-    i: usize,
-) -> Result<Option<usize>, Memory>
-    requires first { h.first < 4294967296 }
-    requires few { i < 4294967296 }
-    ensures is { IfOk result (λ next. going scopes.new next ≡ declarator_hidden source.now h i scopes.old) }
-    ensures further { IfOk result (λ next. IfSome next (λ j. i < j)) }
-{
-    if was_typedef(source, scopes, h, i) && !is_followed(source, i + 1) {
-        hide_at(alloc, source, scopes, h, i)?;
-    }
-    Ok(Some(i + 1))
-}
-
-/// One token of those outside brackets, where typedef names are hidden that the declaration declares. The index at which to go on, `None`
-/// behind the declaration.
-#[tactic(auto, unfolding(crate::specs::Hiding::outer_step))]
-fn outer_step(
-    alloc: Global,
-    source: &Source<'_>,
-    scopes: &mut Scopes,
-    h: Hidden,
-    i: usize,
-) -> Result<Option<usize>, Memory>
-    requires inside { i < length source.now.tokens }
-    requires begun { h.first ≤ i }
-    ensures is { IfOk result (λ next. going scopes.new next ≡ outer_step source.now h i scopes.old) }
-    ensures further { IfOk result (λ next. IfSome next (λ j. i < j)) }
-{
-    if i >= h.end {
-        return Ok(None);
-    }
-    match source.word(i) {
-        Word::Tag(_) => Ok(Some(behind_body(source, i))),
-        Word::Name => hide_declarator(alloc, source, scopes, h, i),
-        _ => Ok(Some(source.past(i))),
-    }
-}
-
-/// Hides the typedef names outside brackets that the declaration declares.
-#[tactic(auto, using(crate::proofs::HidingLemmas::outer_steps))]
-fn hide_outer_names(
-    alloc: Global,
-    source: &Source<'_>,
-    scopes: &mut Scopes,
-    h: Hidden,
-) -> Result<(), Memory>
-    ensures { IfOk result (λ _. scopes.new ≡ hidden_outer_names source.now h scopes.old) }
-{
-    let mut i = h.first;
-    while i < source.len() {
-        match outer_step(alloc, source, scopes, h, i)? {
             Some(next) => {
                 i = next;
                 continue;

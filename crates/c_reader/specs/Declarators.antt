@@ -136,9 +136,15 @@ abbrev with_parameters : List Suffix → Option Parameters → Suffixing
 with_parameters found None = Done None
 with_parameters found (Some p) = More (found ++ suffixes.Parameters ∷ []) p.end
 
+-- two brackets are an attribute of C23, which isn't covered
+abbrev array_behind : File → Inner → ℕ → List Suffix → Suffixing
+array_behind f n i found =
+    if is_open_bracket (word_at f (i + 1)) then Done None
+    else More (found ++ array_suffix f n i (behind_qualifiers f (i + 1)) ∷ []) (past_group f i)
+
 abbrev suffix_by : File → Inner → Context → ℕ → List Suffix → Word → Suffixing
 suffix_by f n context i found w =
-    if is_open_bracket w then More (found ++ array_suffix f n i (behind_qualifiers f (i + 1)) ∷ []) (past_group f i)
+    if is_open_bracket w then array_behind f n i found
     else if is_open_paren w then with_parameters found (n.parameters context i)
     else Done (Some (record { list = found; end = i }))
 

@@ -137,6 +137,9 @@ impl Reader<'_> {
         let word = self.source.word(i);
         let mut list = found;
         if is_open_bracket(word) {
+            if is_open_bracket(self.source.word(i + 1)) {
+                return Err(TypeEnd::NoType);
+            }
             let inside = self.behind_qualifiers(i + 1);
             list.push(self.array_suffix(alloc, depth, i, inside)?)?;
             return Ok(Next::More(list, self.source.past(i)));

@@ -79,7 +79,7 @@ unfolding name_word listed_word found
 names = refl
 
 -- the table has no other name
-no_other_name : length NAMES ≡ 73
+no_other_name : length NAMES ≡ 76
 no_other_name = refl
 
 brackets : map punct_of (codes "(" ∷ codes ")" ∷ codes "[" ∷ codes "]" ∷ codes "{" ∷ codes "}" ∷ []) ≡ punct.OpenParen ∷ punct.CloseParen ∷ punct.OpenBracket ∷ punct.CloseBracket ∷ punct.OpenBrace ∷ punct.CloseBrace ∷ []

@@ -9,7 +9,7 @@ use crate::punct::{PUNCTUATORS, Punct};
 use crate::{Basic, TagWord, Word};
 
 /// The names that aren't plain ones to the grammar. Spellings with underscores around are GNU C's (GCC manual, "Alternate Keywords").
-pub const NAMES: [(&[u8], Word); 73] = [
+pub const NAMES: [(&[u8], Word); 76] = [
     (b"typedef", Word::Typedef),
     (b"register", Word::Register),
     (b"__extension__", Word::Extension),
@@ -70,6 +70,7 @@ pub const NAMES: [(&[u8], Word); 73] = [
     (b"__thread", Word::Uncovered),
     (b"_Alignas", Word::Uncovered),
     (b"_Complex", Word::Uncovered),
+    (b"__complex", Word::Uncovered),
     (b"__complex__", Word::Uncovered),
     (b"_Imaginary", Word::Uncovered),
     (b"__int128", Word::Uncovered),
@@ -81,6 +82,8 @@ pub const NAMES: [(&[u8], Word); 73] = [
     (b"__label__", Word::Uncovered),
     (b"_BitInt", Word::Uncovered),
     (b"typeof_unqual", Word::Uncovered),
+    (b"__typeof_unqual", Word::Uncovered),
+    (b"__typeof_unqual__", Word::Uncovered),
     (b"_Alignof", Word::Keyword),
     (b"_Generic", Word::Keyword),
 ];

@@ -356,7 +356,7 @@ pub const ENUMERATIONS: [Row; 13] = [
 ];
 
 /// Declarations that aren't covered, and bodies in expressions.
-pub const UNCOVERED: [Row; 28] = [
+pub const UNCOVERED: [Row; 38] = [
     (
         "int b; int f(a, b) int a; char b; { return b; } /*?*/",
         "b",
@@ -398,6 +398,47 @@ pub const UNCOVERED: [Row; 28] = [
     ("int x; weird f(int x) { x; } /*?*/", "f", "unknown"),
     ("int y; weird f(int x) { y; } /*?*/", "y", "int"),
     ("int y; weird f(int x) { y; /*?*/ }", "y", "unknown"),
+    ("typedef int T; _Float64 (* const T)(int); /*?*/", "T", "unknown"),
+    (
+        "int x; void f(void) { __typeof_unqual__(x) *x; /*?*/ }",
+        "x",
+        "unknown",
+    ),
+    ("int x; void f(void) { __bf16 *x; /*?*/ }", "x", "unknown"),
+    (
+        "int x; void f(void) { __declspec(thread) char x; /*?*/ }",
+        "x",
+        "unknown",
+    ),
+    ("int x; void f(int a) { a * x; f(x); /*?*/ }", "x", "int"),
+    (
+        "int x; void f(void) { [[maybe_unused]] char x; /*?*/ }",
+        "x",
+        "unknown",
+    ),
+    ("int x; void f(void) { [[likely]] x = 1; /*?*/ }", "x", "int"),
+    (
+        "int x; void f(void) { [[likely]] if (x) { char x; /*?*/ } }",
+        "x",
+        "char",
+    ),
+    ("short x [[maybe_unused]]; /*?*/", "x", "unknown"),
+    (
+        "typedef int T; void f(void) { _Thread_local int (T); /*?*/ }",
+        "T",
+        "unknown",
+    ),
+    ("typedef int T; _Atomic(T) x; /*?*/", "T", "typedef int"),
+    ("typedef int T; _Float128 f(T); /*?*/", "T", "typedef int"),
+    (
+        "typedef int T; void f(void) { __auto_type x = (T)5; /*?*/ }",
+        "T",
+        "typedef int",
+    ),
+];
+
+/// A body in an expression, in attributes or in a static assertion hides what it declares.
+pub const BODIES: [Row; 14] = [
     (
         "struct S { int a; }; int y = sizeof(struct S { char c; }); /*?*/",
         "struct S",
@@ -405,4 +446,59 @@ pub const UNCOVERED: [Row; 28] = [
     ),
     ("void f(void) { (enum { A }) 0; /*?*/ }", "A", "unknown"),
     ("int A; char x[sizeof(enum { A })]; /*?*/", "A", "unknown"),
+    (
+        "enum { A = 5 }; struct s { int (*f)(enum E { B, A } e); char x[A]; } y; /*?*/",
+        "y",
+        "struct",
+    ),
+    (
+        "int A; struct S { _Static_assert(sizeof(enum { A }), \"\"); } x; /*?*/",
+        "A",
+        "unknown",
+    ),
+    (
+        "int A; int x __attribute__((aligned(sizeof(enum { A })))); /*?*/",
+        "A",
+        "unknown",
+    ),
+    (
+        "int A; int __attribute__((aligned(sizeof(enum { A })))) x; /*?*/",
+        "A",
+        "unknown",
+    ),
+    (
+        "char x[8]; int y __attribute__((aligned(sizeof(enum { x })))), z[sizeof x]; /*?*/",
+        "z",
+        "array ? of int",
+    ),
+    (
+        "int A; struct __attribute__((aligned(sizeof(enum { A })))) S { int a; } x; /*?*/",
+        "A",
+        "unknown",
+    ),
+    (
+        "int A; struct S { int a __attribute__((aligned(sizeof(enum { A })))); } x; /*?*/",
+        "A",
+        "unknown",
+    ),
+    (
+        "int A; enum { B __attribute__((aligned(sizeof(enum { A })))) } x; /*?*/",
+        "A",
+        "unknown",
+    ),
+    (
+        "int A; int f(int x __attribute__((aligned(sizeof(enum { A }))))); /*?*/",
+        "A",
+        "unknown",
+    ),
+    (
+        "int A, x = sizeof(struct __attribute__((aligned(sizeof(enum { A })))) { int a; }); /*?*/",
+        "A",
+        "unknown",
+    ),
+    (
+        "int A; weird struct __attribute__((aligned(sizeof(enum { A })))) S { int a; } x; /*?*/",
+        "A",
+        "unknown",
+    ),
 ];

@@ -1,4 +1,4 @@
-use Rattle.std.proofs.Common.{◌≡◌, ◌≤◌, ◌<◌, ◌-◌, length}
+use Rattle.std.proofs.Common.{◌≡◌, ◌≤◌, ◌-◌, length}
 use Rattle.c_decls.specs.Ends.{uncovered_at}
 use Rattle.c_decls.proofs.EndLemmas.{uncovered_from}
 use Rattle.c_decls.proofs.ends.uncovered_at.Given as goal

@@ -1,4 +1,4 @@
-use Rattle.std.proofs.Common.{rules, ◌≡◌, ◌+◌, ◌-◌, ◌<◌, ◌≤◌, ℕ, List, length, drop, arith, ◌∙◌, length-set}
+use Rattle.std.proofs.Common.{◌-◌, arith, ◌∙◌, length-set}
 use Rattle.c_decls.proofs.StatementLemmas.{levels_more}
 use Rattle.c_decls.proofs.statements.level_ends.Goals as goal
 

@@ -1,4 +1,4 @@
-use Rattle.std.proofs.Common.{rules, ◌≡◌, ◌+◌, ◌-◌, ◌<◌, ◌≤◌, ℕ, List, length, drop, arith, ◌∙◌, length-set}
+use Rattle.std.proofs.Common.{◌+◌, ◌-◌, arith, ◌∙◌, length-set}
 use Rattle.c_decls.proofs.StatementLemmas.{ends_more, rest}
 use Rattle.c_decls.proofs.statements.statement_ends.Goals as goal
 

@@ -1,7 +1,7 @@
 use Rattle.std.proofs.Common.{◌≡◌, ◌≤◌, ◌-◌, length}
 use Rattle.c_decls.specs.Hiding.{hidden_outer_names}
 use Rattle.c_decls.proofs.HidingLemmas.{outer_from}
-use Rattle.c_decls.proofs.uncovered.hide_outer_names.Given as goal
+use Rattle.c_decls.proofs.redeclared.hide_outer_names.Given as goal
 
 -- what is left gives what the whole gives
 abbrev pub invariant-loop-i : goal.invariant-loop-i
