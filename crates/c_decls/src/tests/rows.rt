@@ -398,7 +398,11 @@ pub const UNCOVERED: [Row; 38] = [
     ("int x; weird f(int x) { x; } /*?*/", "f", "unknown"),
     ("int y; weird f(int x) { y; } /*?*/", "y", "int"),
     ("int y; weird f(int x) { y; /*?*/ }", "y", "unknown"),
-    ("typedef int T; _Float64 (* const T)(int); /*?*/", "T", "unknown"),
+    (
+        "typedef int T; _Float64 (* const T)(int); /*?*/",
+        "T",
+        "unknown",
+    ),
     (
         "int x; void f(void) { __typeof_unqual__(x) *x; /*?*/ }",
         "x",
@@ -416,7 +420,11 @@ pub const UNCOVERED: [Row; 38] = [
         "x",
         "unknown",
     ),
-    ("int x; void f(void) { [[likely]] x = 1; /*?*/ }", "x", "int"),
+    (
+        "int x; void f(void) { [[likely]] x = 1; /*?*/ }",
+        "x",
+        "int",
+    ),
     (
         "int x; void f(void) { [[likely]] if (x) { char x; /*?*/ } }",
         "x",
