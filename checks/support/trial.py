@@ -7,13 +7,13 @@ ROOT = pathlib.Path(__file__).resolve().parent.parent.parent
 
 
 def program_in(folder, name, crates):
-    """The crate of checks/programs/NAME.rt, in a repository of copies of this one's crates."""
+    """The crate of checks/programs/NAME.rattle, in a repository of copies of this one's crates."""
     copies = folder / "repository/crates"
     shutil.copytree(ROOT / "crates", copies, ignore=shutil.ignore_patterns("out"))
     (copies.parent / "crates.txt").write_text((ROOT / "crates.txt").read_text() + f"{name}: {crates}\n")
     code = copies / name / "src"
     code.mkdir(parents=True)
-    shutil.copy(ROOT / f"checks/programs/{name}.rt", code / "main.rt")
+    shutil.copy(ROOT / f"checks/programs/{name}.rattle", code / "main.rt")
     return code.parent
 
 
