@@ -47,13 +47,13 @@ abbrev pub is_hidden : File → Declared → ℕ → Bool
 is_hidden f seen i = is_some (kind_of seen (bytes_at f i) (start_at f i)) && is_untyped f seen i
 
 -- a parenthesis behind the name at the index goes with a declarator, or with what stands before one: a name follows it
-abbrev pub opens_declarator : File → Declared → ℕ → Bool
-opens_declarator f seen i = is_open_paren (word_at f (i + 1)) && (is_hidden f seen i || is_name_at f (past_group f (i + 1)))
+abbrev pub declares_in_parentheses : File → Declared → ℕ → Bool
+declares_in_parentheses f seen i = is_open_paren (word_at f (i + 1)) && (is_hidden f seen i || is_name_at f (past_group f (i + 1)))
 
 -- A name without a type may stand for a type: one that is a compiler's own, or a typedef name that was hidden for longer than its
 -- scope. With a star or a parenthesis behind it it may declare.
 abbrev pub may_declare : File → Declared → ℕ → Bool
-may_declare f seen i = (is_star (word_at f (i + 1)) && is_untyped f seen i) || opens_declarator f seen i
+may_declare f seen i = (is_star (word_at f (i + 1)) && is_untyped f seen i) || declares_in_parentheses f seen i
 
 abbrev pub name_item : File → Declared → ℕ → Item
 name_item f seen i =

@@ -2,7 +2,7 @@
 
 ghost use Rattle.std.specs.Prelude.{◌≡◌, ◌<◌, ◌≤◌, length};
 ghost use Rattle.c_words.specs.Words.{word_at};
-ghost use Rattle.c_decls.specs.Items.{attribute_item, attributed, behind_extensions, is_extension, is_hidden, is_untyped, item_at, item_behind, item_by, item_or_attributed, may_declare, name_item, opens_attribute, opens_declarator, specifier_item};
+ghost use Rattle.c_decls.specs.Items.{attribute_item, attributed, behind_extensions, is_extension, is_hidden, is_untyped, item_at, item_behind, item_by, item_or_attributed, may_declare, name_item, opens_attribute, declares_in_parentheses, specifier_item};
 
 use c_reader::marks::{is_colon, is_open_bracket, is_open_paren, is_semicolon, is_star};
 use c_reader::{Reader, attributes_at};
@@ -80,9 +80,9 @@ fn is_hidden(reader: &Reader<'_>, i: usize) -> bool
 }
 
 /// Whether a parenthesis behind the name at the index goes with a declarator, or with what stands before one.
-fn opens_declarator(reader: &Reader<'_>, i: usize) -> bool
+fn declares_in_parentheses(reader: &Reader<'_>, i: usize) -> bool
     requires { i < 4294967296 }
-    ensures { result ≡ opens_declarator reader.now.source.now reader.now.scopes.now i }
+    ensures { result ≡ declares_in_parentheses reader.now.source.now reader.now.scopes.now i }
 {
     let source = reader.source;
     is_open_paren(source.word(i + 1))
@@ -94,7 +94,8 @@ fn may_declare(reader: &Reader<'_>, i: usize) -> bool
     requires { i < 4294967296 }
     ensures { result ≡ may_declare reader.now.source.now reader.now.scopes.now i }
 {
-    (is_star(reader.source.word(i + 1)) && is_untyped(reader, i)) || opens_declarator(reader, i)
+    (is_star(reader.source.word(i + 1)) && is_untyped(reader, i))
+        || declares_in_parentheses(reader, i)
 }
 
 /// What begins with the name at the index.

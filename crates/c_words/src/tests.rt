@@ -99,7 +99,7 @@ const ALIKE: [(&[u8], Word); 41] = [
     (b"default", Word::Default),
     (b"goto return break continue", Word::Jump),
     (
-        b"_Atomic _Thread_local __thread _Alignas _Complex __complex__",
+        b"_Atomic _Thread_local __thread _Alignas _Complex __complex __complex__",
         Word::Uncovered,
     ),
     (
@@ -107,7 +107,7 @@ const ALIKE: [(&[u8], Word); 41] = [
         Word::Uncovered,
     ),
     (
-        b"__signed __attribute __label__ _BitInt typeof_unqual",
+        b"__signed __attribute __label__ _BitInt typeof_unqual __typeof_unqual __typeof_unqual__",
         Word::Uncovered,
     ),
     (
