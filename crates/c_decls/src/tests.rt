@@ -1,11 +1,11 @@
+mod hidden_rows;
 mod rows;
 
 use super::*;
 use c_tokens::tokens;
 use c_types::{CType, Tags, size_of};
-use rows::{
-    ATTRIBUTES, BODIES, DECLARATORS, ENUMERATIONS, Row, SCOPES, SPECIFIERS, STRUCTS, UNCOVERED,
-};
+use hidden_rows::{BODIES, UNCOVERED};
+use rows::{ATTRIBUTES, DECLARATORS, ENUMERATIONS, Row, SCOPES, SPECIFIERS, STRUCTS};
 use std::alloc::{AllocError, Global};
 use std::process::Abort;
 use std::test::Fail;
