@@ -6,7 +6,7 @@ use Rattle.c_words.specs.Words.{word_at, bytes_at, past_group}
 use Rattle.c_words.specs.declared.word.Word.TheVariants as words
 use Rattle.c_words.specs.declared.punct.Punct.{Punct}
 use Rattle.c_words.specs.declared.punct.Punct.TheVariants as puncts
-use Rattle.c_reader.specs.Marks.{is_open_paren, is_colon}
+use Rattle.c_reader.specs.Marks.{is_open_bracket, is_open_paren, is_colon}
 use Rattle.c_decls.specs.declared.ends.Stop.TheVariants as stops
 use Rattle.c_decls.specs.Ends.{behind_case, behind_semicolon, level_end}
 use Rattle.c_tokens.specs.declared.token.Token.{Token}
@@ -22,12 +22,17 @@ behind_head f i = if is_open_paren (word_at f (i + 1)) then past_group f (i + 1)
 abbrev pub behind_else : (ℕ → ℕ) → File → Bool → ℕ → ℕ
 behind_else end f is_if i = if is_if && spelt f i (codes "else") then end (i + 1) else i
 
-abbrev pub punct_end : File → ℕ → Punct → ℕ
-punct_end f i puncts.OpenBrace = past_group f i
-punct_end f i puncts.CloseBrace = i
-punct_end f i puncts.CloseParen = i
-punct_end f i puncts.CloseBracket = i
-punct_end f i _ = behind_semicolon f i
+-- behind an attribute of C23 stands the statement
+abbrev pub bracket_end : (ℕ → ℕ) → File → ℕ → ℕ
+bracket_end end f i = if is_open_bracket (word_at f (i + 1)) then end (past_group f i) else behind_semicolon f i
+
+abbrev pub punct_end : (ℕ → ℕ) → File → ℕ → Punct → ℕ
+punct_end end f i puncts.OpenBrace = past_group f i
+punct_end end f i puncts.OpenBracket = bracket_end end f i
+punct_end end f i puncts.CloseBrace = i
+punct_end end f i puncts.CloseParen = i
+punct_end end f i puncts.CloseBracket = i
+punct_end end f i _ = behind_semicolon f i
 
 -- `do` is followed by a statement and by `while (..);`
 abbrev pub lead_end : (ℕ → ℕ) → File → ℕ → ℕ
@@ -44,12 +49,13 @@ head_end end f i = behind_else end f (spelt f i (codes "if")) (end (behind_head 
 unfoldable pub statement_end_by : (ℕ → ℕ) → File → ℕ → ℕ
 statement_end_by end f i = elim (word_at f i) [
   | words.For ↦ end (behind_head f i)
+  | words.Attribute ↦ end (behind_head f i)
   | words.Head ↦ head_end end f i
   | words.Lead ↦ lead_end end f i
   | words.Case ↦ end (behind_case f i)
   | words.Default ↦ end (behind_case f i)
   | words.Name ↦ name_end end f i
-  | words.Punct p ↦ punct_end f i p
+  | words.Punct p ↦ punct_end end f i p
   | _ ↦ behind_semicolon f i
 ]
 

@@ -3,11 +3,11 @@
 ghost use Rattle.std.specs.Prelude.{◌≡◌, ◌+◌, ◌<◌, IfOk, IsTrue, codes, drop, length};
 ghost use Rattle.c_decls.specs.declared.ends.Stop.TheVariants.{Semicolon};
 ghost use Rattle.c_decls.specs.Ends.{behind_semicolon, level_end};
-ghost use Rattle.c_decls.specs.Statements.{behind_else, behind_head, end_among, head_end, lead_end, level_ends, name_end, punct_end, spelt, statement_end_by, statement_ends};
+ghost use Rattle.c_decls.specs.Statements.{behind_else, bracket_end, behind_head, end_among, head_end, lead_end, level_ends, name_end, punct_end, spelt, statement_end_by, statement_ends};
 
 use crate::ends::{behind_case, closes};
 use asm_core::{Items, Memory};
-use c_reader::marks::{is_colon, is_open_paren, is_semicolon};
+use c_reader::marks::{is_colon, is_open_bracket, is_open_paren, is_semicolon};
 use c_words::{Punct, Source, Word};
 use std::alloc::Global;
 
@@ -120,16 +120,31 @@ fn lead_end(source: &Source<'_>, levels: &[u32], later: &[u32], i: usize) -> usi
     end
 }
 
-/// Where the statement ends that begins with a punctuator at the index.
-fn punct_end(source: &Source<'_>, levels: &[u32], i: usize, punct: Punct) -> usize
+/// Where the statement ends that begins with a bracket at the index, as an attribute of C23 does.
+fn bracket_end(source: &Source<'_>, levels: &[u32], later: &[u32], i: usize) -> usize
     requires levels { levels.now ≡ level_ends source.now 0 source.now.tokens }
     requires inside { i < length source.now.tokens }
     requires few { length source.now.tokens < 4294967296 }
-    ensures is { result ≡ punct_end source.now i punct }
+    ensures is { result ≡ bracket_end (end_among (i + 1) later.now) source.now i }
+    ensures fits { result < 4294967296 }
+{
+    if is_open_bracket(source.word(i + 1)) {
+        return end_among(i + 1, later, source.past(i));
+    }
+    behind_semicolon(source, levels, i)
+}
+
+/// Where the statement ends that begins with a punctuator at the index.
+fn punct_end(source: &Source<'_>, levels: &[u32], later: &[u32], i: usize, punct: Punct) -> usize
+    requires levels { levels.now ≡ level_ends source.now 0 source.now.tokens }
+    requires inside { i < length source.now.tokens }
+    requires few { length source.now.tokens < 4294967296 }
+    ensures is { result ≡ punct_end (end_among (i + 1) later.now) source.now i punct }
     ensures fits { result < 4294967296 }
 {
     match punct {
         Punct::OpenBrace => source.past(i),
+        Punct::OpenBracket => bracket_end(source, levels, later, i),
         Punct::CloseBrace | Punct::CloseParen | Punct::CloseBracket => i,
         _ => behind_semicolon(source, levels, i),
     }
@@ -175,12 +190,12 @@ fn statement_end_by(source: &Source<'_>, levels: &[u32], later: &[u32], i: usize
     ensures fits { result < 4294967296 }
 {
     match source.word(i) {
-        Word::For => end_among(i + 1, later, behind_head(source, i)),
+        Word::For | Word::Attribute => end_among(i + 1, later, behind_head(source, i)),
         Word::Head => head_end(source, later, i),
         Word::Lead => lead_end(source, levels, later, i),
         Word::Case | Word::Default => end_among(i + 1, later, behind_case(source, i)),
         Word::Name => name_end(source, levels, later, i),
-        Word::Punct(punct) => punct_end(source, levels, i, punct),
+        Word::Punct(punct) => punct_end(source, levels, later, i, punct),
         _ => behind_semicolon(source, levels, i),
     }
 }

@@ -3,7 +3,7 @@
 use super::rows::Row;
 
 /// Declarations that aren't covered.
-pub const UNCOVERED: [Row; 38] = [
+pub const UNCOVERED: [Row; 41] = [
     (
         "int b; int f(a, b) int a; char b; { return b; } /*?*/",
         "b",
@@ -78,6 +78,21 @@ pub const UNCOVERED: [Row; 38] = [
         "char",
     ),
     ("short x [[maybe_unused]]; /*?*/", "x", "unknown"),
+    (
+        "int x; void f(void) { for (char x = 0; x; ) [[unlikely]] { x; } x /*?*/ = 1; }",
+        "x",
+        "int",
+    ),
+    (
+        "int x; void f(void) { for (char x = 0; x; ) [[unlikely]] { x /*?*/; } x = 1; }",
+        "x",
+        "char",
+    ),
+    (
+        "int x; void f(void) { for (char x = 0; x; ) l: __attribute__((unused)) { } x /*?*/ = 1; }",
+        "x",
+        "int",
+    ),
     (
         "typedef int T; void f(void) { _Thread_local int (T); /*?*/ }",
         "T",
