@@ -19,7 +19,7 @@ abbrev pub any_register : AltIface
 any_register = record { early = false; tied = None; regs = all_regs; pair = false; mem = false; numbers = None }
 
 abbrev pub register_operand : Part → OperandIface
-register_operand part = record { role = role_of part.constraint.bytes; size = 4; pointer = false; known = None; alts = any_register ∷ [] }
+register_operand part = record { role = role_of part.constraint.bytes; size = 4; pointer = false; known = None; flag = None; alts = any_register ∷ [] }
 
 -- some clobber stands there
 abbrev pub has_clobber : List Quoted → Bool

@@ -1,3 +1,4 @@
+pub mod Cond
 pub mod Entry
 pub mod Finding
 pub mod Flag
@@ -11,3 +12,4 @@ pub mod Reg
 pub mod Rows
 pub mod Run
 pub mod Shape
+pub mod WellFormed

@@ -1,5 +1,9 @@
-use crate::{Duplicate, Items, Memory, RegSet};
-use std::alloc::Global;
+ghost use Rattle.std.specs.Prelude.{◌≡◌};
+ghost use Rattle.asm_core.specs.declared.interface.IfaceEnd.{IfaceEnd};
+
+use crate::{Cond, Duplicate, Finding, Items, Mark, Memory, RegSet};
+use std::alloc::{AllocError, AllocFailed, Global};
+use thiserror::Error;
 
 /// Whether an operand is written, read and written, or read (`=`, `+`, neither).
 #[derive(Clone, Copy, Debug, PartialEq, Eq)]
@@ -33,6 +37,9 @@ pub struct OperandIface {
     pub pointer: bool,
     /// The value where it is known.
     pub known: Option<i64>,
+    /// The condition of a flag output, as `=@ccz`. It has no place and takes no register: in every alternative it allows the
+    /// number 0 alone, and its known value is 0.
+    pub flag: Option<Cond>,
     pub alts: Items<AltIface>,
 }
 
@@ -45,6 +52,43 @@ pub struct Interface {
     pub memory: bool,
 }
 
+/// Why a statement has no interface.
+#[derive(Debug, Drop, Error)]
+pub enum IfaceEnd {
+    /// Something in it lies outside the tables.
+    #[error("outside the tables")]
+    Outside(Mark),
+    /// Its interface is malformed: the findings of the rule K2 in their order.
+    #[error("a malformed interface")]
+    Broken(Items<Finding>),
+    #[error("out of memory")]
+    Memory,
+}
+
+impl From<Memory> for IfaceEnd {
+    ghost from_gives = { λ _ e. e ≡ IfaceEnd.Memory };
+
+    fn from(_: Memory) -> IfaceEnd {
+        IfaceEnd::Memory
+    }
+}
+
+impl From<AllocError> for IfaceEnd {
+    ghost from_gives = { λ _ e. e ≡ IfaceEnd.Memory };
+
+    fn from(_: AllocError) -> IfaceEnd {
+        IfaceEnd::Memory
+    }
+}
+
+impl<T: Drop> From<AllocFailed<T>> for IfaceEnd {
+    ghost from_gives = { λ _ e. e ≡ IfaceEnd.Memory };
+
+    fn from(_: AllocFailed<T>) -> IfaceEnd {
+        IfaceEnd::Memory
+    }
+}
+
 impl Duplicate for OperandIface {
     fn duplicate(&self, alloc: Global) -> Result<Self, Memory> {
         Ok(OperandIface {
@@ -52,6 +96,7 @@ impl Duplicate for OperandIface {
             size: self.size,
             pointer: self.pointer,
             known: self.known,
+            flag: self.flag,
             alts: Items::from_slice(alloc, self.alts.as_slice())?,
         })
     }

@@ -1,6 +1,7 @@
 //! The types that the crates of asmck share, and the definitions that more than one of them cites.
 #![tactic(auto)]
 
+mod cond;
 mod duplicate;
 mod edit;
 mod finding;
@@ -10,6 +11,8 @@ mod interface;
 mod machine;
 mod mark;
 mod memory;
+mod operand;
+mod piece;
 mod placement;
 mod reg;
 mod shape;
@@ -17,15 +20,18 @@ mod span;
 mod statement;
 mod sym;
 
+pub use cond::Cond;
 pub use duplicate::{Duplicate, duplicate_items};
 pub use edit::Edit;
 pub use finding::{Cell, END_LINE, Finding, Rule};
 pub use flag::{Flag, FlagSet};
 pub use inst::{Code, Inst, InstArg, Op, Repeat, Width};
-pub use interface::{AltIface, Interface, OperandIface, Role};
+pub use interface::{AltIface, IfaceEnd, Interface, OperandIface, Role};
 pub use machine::{Fault, Machine, Range};
 pub use mark::{Mark, MarkKind};
 pub use memory::Memory;
+pub use operand::Operand;
+pub use piece::{Modifier, Piece, Pieces, PiecesEnd};
 pub use placement::{Base, Form, Placement, Spot};
 pub use reg::{Reg, RegSet, Slice};
 pub use shape::{Kind, Kinds, Shape};

@@ -42,6 +42,7 @@ fn register_operand(alloc: Global, part: &Part) -> Result<OperandIface, Memory>
         size: 4,
         pointer: false,
         known: None,
+        flag: None,
         alts: Items::from_slice(alloc, &[any_register()])?,
     })
 }

@@ -11,7 +11,7 @@ use Rattle.c_values.specs.Readings.{is_pointer, known, value_size}
 use Rattle.c_reader.specs.declared.grammar.Level.TheVariants.{Comma}
 use Rattle.c_reader.specs.declared.grammar.Typed.{Typed}
 use Rattle.c_reader.specs.Nesting.{inner}
-use Rattle.c_exprs.specs.declared.expression.Operand.{Operand}
+use Rattle.asm_core.specs.declared.operand.Operand.{Operand}
 use Rattle.c_exprs.specs.declared.reading.TheConstants.{LEVELS}
 
 abbrev pub begins_before : ℕ → Token → Bool

@@ -9,7 +9,7 @@ use Rattle.blk_check.specs.FirstForm.{same_text}
 use Rattle.c_words.specs.File.{File}
 use Rattle.c_words.specs.Words.{end_at}
 use Rattle.c_scopes.specs.Seen.{Declared}
-use Rattle.c_exprs.specs.declared.expression.Operand.{Operand}
+use Rattle.asm_core.specs.declared.operand.Operand.{Operand}
 use Rattle.c_exprs.specs.Operands.{operand_of, token_from}
 
 -- the token that begins where the text does ends where the text does, so that no other literal is joined to it

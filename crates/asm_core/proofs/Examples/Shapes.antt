@@ -13,7 +13,7 @@ use Rattle.asm_core.specs.declared.interface.OperandIface.{OperandIface}
 use Rattle.asm_core.specs.declared.interface.Interface.{Interface}
 
 abbrev pub operand : Role → List AltIface → OperandIface
-operand role alts = record { role = role; size = 4; pointer = false; known = None; alts = alts }
+operand role alts = record { role = role; size = 4; pointer = false; known = None; flag = None; alts = alts }
 
 abbrev pub interface : List OperandIface → Interface
 interface operands = record { operands = operands; clobbers = no_regs; cc = false; memory = false }

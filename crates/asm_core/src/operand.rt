@@ -1,6 +1,4 @@
-//! What an expression is to an asm statement.
-
-/// What is known of an operand's expression.
+/// What is known of the expression of an asm operand.
 #[derive(Clone, Copy, Debug, PartialEq, Eq)]
 pub struct Operand {
     /// The bytes of the expression's own type, if that has a size.
