@@ -12,4 +12,5 @@ pub mod Reg
 pub mod Rows
 pub mod Run
 pub mod Shape
+pub mod Statement
 pub mod WellFormed

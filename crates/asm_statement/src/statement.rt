@@ -1,6 +1,7 @@
 //! The asm statements of a text.
 
-ghost use Rattle.std.specs.Prelude.{◌≡◌, ◌<◌, ◌≤◌, Ok, drop, length, IfOk};
+ghost use Rattle.std.specs.Prelude.{◌≡◌, ◌<◌, ◌≤◌, Ok, drop, length, IfOk, All};
+ghost use Rattle.asm_core.specs.Statement.{IsSmallBody};
 ghost use Rattle.c_tokens.specs.Tokens.{tokens_of};
 ghost use Rattle.asm_statement.specs.Statements.{behind_words, close_of, last_of, is_nested, body_of, statement_at, first_of, statements_from, statements_of};
 
@@ -140,11 +141,21 @@ fn statements_at(
 ///
 /// A keyword `asm`, `__asm__` or `__asm` begins one where a statement of C may begin; elsewhere it is the label of a
 /// declaration. One that isn't of this profile's form is answered as outside.
-#[tactic(auto, using(crate::proofs::CountLemmas::count_rules))]
 pub fn statements(alloc: Global, t: &Tokens, text: &[u8]) -> Result<Items<Statement>, Memory>
     requires tokens { tokens_of text.now ≡ Ok t.now.list }
     requires short { length text.now < 4294967295 }
     // Exactly the definition's statements, unless memory runs out.
+    ensures is { IfOk result (λ list. list ≡ statements_of text.now t.now.list) }
+    // At most 30 operands each.
+    ensures few { IfOk result (All (λ (s : Statement). IsSmallBody s.body)) }
+{
+    read_statements(alloc, t, text)
+}
+
+#[tactic(auto, using(crate::proofs::CountLemmas::count_rules))]
+fn read_statements(alloc: Global, t: &Tokens, text: &[u8]) -> Result<Items<Statement>, Memory>
+    requires tokens { tokens_of text.now ≡ Ok t.now.list }
+    requires short { length text.now < 4294967295 }
     ensures { IfOk result (λ list. list ≡ statements_of text.now t.now.list) }
 {
     let closers = closers(alloc, text, t)?;

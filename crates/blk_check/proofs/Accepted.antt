@@ -1,16 +1,39 @@
 -- From the answer of `check` to the theorem.
-use Rattle.std.proofs.Common.{◌≡◌, List, [], Some, sym, ◌∙◌, ap, subst}
+use Rattle.std.proofs.Common.{◌≡◌, List, [], ◌∷◌, Bool, true, false, Option, None, Some, slice_get, if◌then◌else◌, refl, ap, sym, ◌∙◌, subst}
 use Rattle.asm_core.specs.Frame.{KeepsFrame}
+use Rattle.asm_core.specs.declared.statement.Parts.{Parts}
+use Rattle.asm_core.specs.declared.statement.Body.{Body}
 use Rattle.asm_core.specs.declared.statement.Statement.{Statement}
+use Rattle.asm_core.specs.declared.interface.OperandIface.{OperandIface}
 use Rattle.asm_core.specs.declared.interface.Interface.{Interface}
 use Rattle.asm_core.specs.declared.sym.Sym.{Sym}
 use Rattle.blk_check.specs.FirstForm.{first_form_of}
-use Rattle.blk_check.specs.Judged.{IsInForm, lines_in, lines_in_body}
+use Rattle.blk_check.specs.Judged.{has_words, lines_in, lines_in_body, IsVerdict}
+use Rattle.blk_check.specs.Proven.{Proven}
+use Rattle.blk_check.specs.declared.verdict.Verdict.{Verdict}
 use Rattle.blk_check.specs.Verdict.{verdict_of}
+use Rattle.blk_check.proofs.FormLaws.{AreFirstLines, kept_by_test, first_form_parts}
 use Rattle.blk_check.proofs.Frame.{accepted_frame}
 
-pub judged_frame : (s : Statement) (i : Interface) (lines : List Sym) → IsInForm s i → lines_in s ≡ Some lines → verdict_of i lines ≡ [] → KeepsFrame i lines
-judged_frame s i lines form is_lines accepted =
-    let in_form : first_form_of form.parts ≡ Some lines = sym (ap lines_in_body form.is_parts) ∙ is_lines in
-    let kept = accepted_frame form.parts lines in_form (subst (λ j. verdict_of j lines ≡ []) form.is_interface accepted) in
-    subst (λ j. KeepsFrame j lines) (sym form.is_interface) kept
+first_lines : (body : Body) (lines : List Sym) → lines_in_body body ≡ Some lines → AreFirstLines lines
+first_lines (Body.Parts parts) lines e = (first_form_parts parts lines e).first
+first_lines (Body.Outside mark) lines e = cc
+
+-- there is an operand 0
+zeroth : (operands : List OperandIface) → has_words operands ≡ true → (o : OperandIface) × (slice_get operands 0 ≡ Some o)
+zeroth [] e = cc
+zeroth (o ∷ os) e = (o, refl)
+
+pub judged_frame : (s : Statement) (i : Interface) (lines : List Sym) → lines_in s i ≡ Some lines → verdict_of i lines ≡ [] → KeepsFrame i lines
+judged_frame s i lines is_lines accepted =
+    let t = kept_by_test (has_words i.operands) (lines_in_body s.body) lines is_lines in
+    let first = zeroth i.operands t.0 in
+    accepted_frame i lines first.0 first.1 (first_lines s.body lines t.1) accepted
+
+-- the lines of a statement with these parts, where it is accepted
+pub ok_keeps : (s : Statement) (i : Interface) (parts : Parts) (lines : List Sym) (proof : Proven) → s.body ≡ Body.Parts parts → first_form_of parts ≡ Some lines → IsVerdict s i (Verdict.Ok proof) → KeepsFrame i lines
+ok_keeps s i parts lines proof is_parts is_lines v =
+    let t = kept_by_test (has_words i.operands) (lines_in_body s.body) proof.lines v.2 in
+    let here : lines_in_body s.body ≡ Some lines = ap lines_in_body is_parts ∙ is_lines in
+    let same : proof.lines ≡ lines = cc (t.1, here) in
+    subst (KeepsFrame i) same (judged_frame s i proof.lines v.2 v.3)

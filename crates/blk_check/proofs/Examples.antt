@@ -1,6 +1,6 @@
 -- Statements in the first form and their verdicts.
-use Rattle.std.proofs.Common.{◌≡◌, ℕ, pos, List, [], ◌∷◌, codes, None, Some, refl}
-use Rattle.asm_core.specs.Interface.{interface_of}
+use Rattle.std.proofs.Common.{◌≡◌, ℕ, pos, List, [], ◌∷◌, map, codes, Bool, true, false, None, Some, refl}
+use Rattle.asm_core.specs.Reg.{all_regs, no_regs}
 use Rattle.asm_core.specs.declared.span.Span.{Span}
 use Rattle.asm_core.specs.declared.inst.Op.{Op}
 use Rattle.asm_core.specs.declared.sym.Arg.{Arg}
@@ -8,6 +8,9 @@ use Rattle.asm_core.specs.declared.sym.Sym.{Sym}
 use Rattle.asm_core.specs.declared.statement.Quoted.{Quoted}
 use Rattle.asm_core.specs.declared.statement.Part.{Part}
 use Rattle.asm_core.specs.declared.statement.Parts.{Parts}
+use Rattle.asm_core.specs.declared.interface.Role.{Role}
+use Rattle.asm_core.specs.declared.interface.OperandIface.{OperandIface}
+use Rattle.asm_core.specs.declared.interface.Interface.{Interface}
 use Rattle.asm_core.specs.declared.finding.Rule.{Rule}
 use Rattle.asm_core.specs.declared.finding.Cell.{Cell}
 use Rattle.blk_check.specs.FirstForm.{operand, line_with, line_of, lines_from, first_form_of}
@@ -26,6 +29,21 @@ part constraint = record { name = None; constraint = quoted constraint; expr = n
 abbrev statement : List ℕ → List Part → List Part → List Quoted → Parts
 statement template outputs inputs clobbers = record { template = quoted template; outputs = outputs; inputs = inputs; clobbers = clobbers; colons = 3; last = 0; bad_template = None }
 
+-- 4 bytes in any register
+abbrev operand_as : Role → OperandIface
+operand_as role = record {
+  role = role;
+  size = 4;
+  pointer = false;
+  known = None;
+  flag = None;
+  alts = record { early = false; tied = None; regs = all_regs; pair = false; mem = false; numbers = None } ∷ [];
+}
+
+-- what such a statement tells the compiler, with `cc` or without
+abbrev interface : List Role → Bool → Interface
+interface roles cc = record { operands = map operand_as roles; clobbers = no_regs; cc = cc; memory = false }
+
 abbrev move : Arg → Sym
 move source = line_with Op.Mov 0 source
 
@@ -43,7 +61,7 @@ its_lines : first_form_of copy_and_add ≡ Some (move (operand 1) ∷ sum (numbe
 unfolding lines_from
 its_lines = refl
 
-it_is_accepted : verdict_of (interface_of copy_and_add) (move (operand 1) ∷ sum (number 3) ∷ []) ≡ []
+it_is_accepted : verdict_of (interface (Role.Out ∷ Role.In ∷ []) true) (move (operand 1) ∷ sum (number 3) ∷ []) ≡ []
 it_is_accepted = refl
 
 -- `__asm__("addl $1,%0"::"r"(x))`
@@ -54,7 +72,7 @@ input_lines : first_form_of add_to_input ≡ Some (sum (number 1) ∷ [])
 unfolding lines_from
 input_lines = refl
 
-input_findings : verdict_of (interface_of add_to_input) (sum (number 1) ∷ [])
+input_findings : verdict_of (interface (Role.In ∷ []) false) (sum (number 1) ∷ [])
     ≡ record { rule = Rule.W2; line = 513; cell = Cell.Operand 0; other = Cell.Nothing } ∷ record { rule = Rule.W3; line = 513; cell = Cell.Cc; other = Cell.Nothing } ∷ []
 input_findings = refl
 
@@ -63,11 +81,11 @@ kept_input : first_form_of (statement (codes "movl %0,%0; movl %0,%0") [] (part 
 unfolding lines_from
 kept_input = refl
 
-kept_is_accepted : verdict_of (interface_of (statement [] [] (part (codes "r") ∷ []) [])) (move (operand 0) ∷ move (operand 0) ∷ []) ≡ []
+kept_is_accepted : verdict_of (interface (Role.In ∷ []) false) (move (operand 0) ∷ move (operand 0) ∷ []) ≡ []
 kept_is_accepted = refl
 
 -- `__asm__("addl %1,%0":"+r"(y):"r"(x))`: the flags are changed
-flags_changed : verdict_of (interface_of (statement (codes "addl %1,%0") (part (codes "+r") ∷ []) (part (codes "r") ∷ []) [])) (sum (operand 1) ∷ []) ≡ record { rule = Rule.W3; line = 513; cell = Cell.Cc; other = Cell.Nothing } ∷ []
+flags_changed : verdict_of (interface (Role.InOut ∷ Role.In ∷ []) false) (sum (operand 1) ∷ []) ≡ record { rule = Rule.W3; line = 513; cell = Cell.Cc; other = Cell.Nothing } ∷ []
 flags_changed = refl
 
 -- ---- what is of another form

@@ -2,7 +2,6 @@
 use Rattle.std.proofs.Common.{◌≡◌, ◌⊎◌, inl, inr, ⊎_elim, ℕ, zero, suc, ◌+◌, ◌-◌, ◌*◌, ◌≤◌, ◌==◌, nat_le, nat_lt, ◌&&◌, pos, List, [], ◌∷◌, ◌++◌, map, length, drop, codes, Bool, true, false, Option, None, Some, option_map, slice_get, slice_index, slice_range, if◌then◌else◌, refl, sym, subst, arith}
 use Rattle.std.specs.Char.{is_ascii_digit}
 use Rattle.std.proofs.lemmas.Bool.{leb-true}
-use Rattle.asm_core.specs.Interface.{interface_of, register_operand}
 use Rattle.asm_core.specs.declared.inst.Op.{Op}
 use Rattle.asm_core.specs.declared.inst.Width.{Width}
 use Rattle.asm_core.specs.declared.inst.Repeat.{Repeat}
@@ -10,7 +9,6 @@ use Rattle.asm_core.specs.declared.sym.Arg.{Arg}
 use Rattle.asm_core.specs.declared.sym.Sym.{Sym}
 use Rattle.asm_core.specs.declared.statement.Part.{Part}
 use Rattle.asm_core.specs.declared.statement.Parts.{Parts}
-use Rattle.asm_core.specs.declared.interface.OperandIface.{OperandIface}
 use Rattle.blk_check.specs.FirstForm.{same_text, after_prefix, before_suffix, greatest, value_from, number_of, operand, source_of, line_with, line_from, line_after, line_of, line_end, cons_line, lines_from, lines_of, inputs_fit, clobbers_fit, lines_fit, fitting_lines, first_form_of}
 
 -- `%0`, `%1` or a number from 0 to the greatest
@@ -36,7 +34,7 @@ both true b e = (refl, e)
 both false b e = cc
 
 -- what a value that stands behind a test tells
-kept_by_test : {A : Type 0} (b : Bool) (o : Option A) (x : A) → (if b then o else None) ≡ Some x → (b ≡ true) × (o ≡ Some x)
+pub kept_by_test : {A : Type 0} (b : Bool) (o : Option A) (x : A) → (if b then o else None) ≡ Some x → (b ≡ true) × (o ≡ Some x)
 kept_by_test true o x e = (refl, e)
 kept_by_test false o x e = cc
 
@@ -155,12 +153,3 @@ first_form_parts parts lines e =
     let tests = both (inputs_fit parts.inputs) (clobbers_fit parts.clobbers) t.0 in
     let found = fitting_parts parts.outputs (lines_of parts.template) lines t.1 in
     record { inputs = tests.0; clobbers = tests.1; template = found.0; fit = found.1; first = lines_from-first 100 parts.template.bytes parts.template.at 0 lines found.0 }
-
--- there is an operand 0
-pub first_operand : (parts : Parts) → inputs_fit parts.inputs ≡ true → (o : OperandIface) × (slice_get (interface_of parts).operands 0 ≡ Some o)
-first_operand parts e = go parts.outputs parts.inputs e
-  where
-    go : (outputs inputs : List Part) → inputs_fit inputs ≡ true → (o : OperandIface) × (slice_get (map register_operand (outputs ++ inputs)) 0 ≡ Some o)
-    go [] [] h = cc
-    go [] (input ∷ inputs) h = (register_operand input, refl)
-    go (output ∷ outputs) inputs h = (register_operand output, refl)

@@ -4,7 +4,6 @@ use Rattle.std.specs.List.{list_any}
 use Rattle.std.proofs.lemmas.Bool.{cases_Bool, or_parts, eqb-true}
 use Rattle.std.proofs.lemmas.Option.{slice_get-map}
 use Rattle.asm_core.specs.Lists.{IsMember}
-use Rattle.asm_core.specs.Interface.{interface_of}
 use Rattle.asm_core.specs.Placement.{spot_of, value_registers, is_output, IsAllowed}
 use Rattle.asm_core.specs.Shape.{shapes_of}
 use Rattle.asm_core.specs.Entry.{IsEntry}
@@ -30,17 +29,16 @@ use Rattle.asm_core.specs.declared.sym.Sym.{Sym}
 use Rattle.asm_core.specs.declared.interface.Role.{Role}
 use Rattle.asm_core.specs.declared.interface.OperandIface.{OperandIface}
 use Rattle.asm_core.specs.declared.interface.Interface.{Interface}
-use Rattle.asm_core.specs.declared.statement.Parts.{Parts}
 use Rattle.asm_core.specs.declared.placement.Spot.{Spot}
 use Rattle.asm_core.specs.declared.placement.Placement.{Placement}
 use Rattle.asm_core.specs.declared.machine.Machine.{Machine}
 use Rattle.asm_core.specs.declared.finding.Finding.{Finding}
-use Rattle.blk_check.specs.FirstForm.{operand, source_in, is_operand, is_mov, first_form_of}
+use Rattle.blk_check.specs.FirstForm.{operand, source_in, is_operand, is_mov}
 use Rattle.asm_core.specs.declared.finding.Rule.{Rule}
 use Rattle.asm_core.specs.declared.finding.Cell.{Cell}
 use Rattle.blk_check.specs.Verdict.{known_after, is_entry_value, is_input_alone, at_end, finding_if, moves_to_itself, verdict_of}
 use Rattle.blk_check.proofs.KnownLaws.{known_value, known_flags}
-use Rattle.blk_check.proofs.FormLaws.{both, mapped, IsFirstLine, AreFirstLines, IsFirstForm, first_form_parts, first_operand}
+use Rattle.blk_check.proofs.FormLaws.{both, mapped, IsFirstLine, AreFirstLines}
 
 -- ---- what an accepted verdict says of the lines
 
@@ -190,19 +188,13 @@ module _ (i : Interface) (s : Shape) (p : Placement) (entry : Machine) (lines : 
   framed (Outcome.Going m) e = keeps_weaken (MayChange i s p entry) (MayDiffer i s p entry) entry m on_the_way e
   framed (Outcome.Failed fault m) e = keeps_weaken (MayChange i s p entry) (MayDiffer i s p entry) entry m on_the_way e
 
--- a statement in the first form without findings changes only declared outputs and clobbers
-pub accepted_frame : (parts : Parts) (lines : List Sym) → first_form_of parts ≡ Some lines → verdict_of (interface_of parts) lines ≡ [] → KeepsFrame (interface_of parts) lines
-accepted_frame parts lines is_first no_findings = record { each = each }
+-- first-form lines without findings change only declared outputs and clobbers, whatever else the interface says
+pub accepted_frame : (i : Interface) (lines : List Sym) (zeroth : OperandIface) → slice_get i.operands 0 ≡ Some zeroth → AreFirstLines lines → verdict_of i lines ≡ [] → KeepsFrame i lines
+accepted_frame i lines zeroth found first no_findings = record { each = each }
   where
-    form : IsFirstForm parts lines
-    form = first_form_parts parts lines is_first
-
-    zeroth : (o : OperandIface) × (slice_get (interface_of parts).operands 0 ≡ Some o)
-    zeroth = first_operand parts form.inputs
-
-    each : (s : Shape) (p : Placement) (entry : Machine) (n : ℕ) (choices : List ℕ) (outside : List (List ℕ)) → IsMember s (shapes_of (interface_of parts)) → IsAllowed (interface_of parts) s p → IsEntry (interface_of parts) s p entry
-        → IsFramed (interface_of parts) s p entry (run_of (code_of p lines) n choices outside entry)
+    each : (s : Shape) (p : Placement) (entry : Machine) (n : ℕ) (choices : List ℕ) (outside : List (List ℕ)) → IsMember s (shapes_of i) → IsAllowed i s p → IsEntry i s p entry
+        → IsFramed i s p entry (run_of (code_of p lines) n choices outside entry)
     each s p entry n choices outside shape allowed begins =
-        framed (interface_of parts) s p entry lines (run_of (code_of p lines) n choices outside entry)
-        (runs_in (Keeps (MayChange (interface_of parts) s p entry) entry) (code_of p lines)
-        (code_keeps (interface_of parts) s p entry lines zeroth.0 zeroth.1 (accepted (interface_of parts) lines no_findings) form.first) n choices outside entry (keeps_refl (MayChange (interface_of parts) s p entry) entry))
+        framed i s p entry lines (run_of (code_of p lines) n choices outside entry)
+        (runs_in (Keeps (MayChange i s p entry) entry) (code_of p lines)
+        (code_keeps i s p entry lines zeroth found (accepted i lines no_findings) first) n choices outside entry (keeps_refl (MayChange i s p entry) entry))

@@ -3,9 +3,6 @@
 
 mod form;
 mod line;
-mod operands;
 mod verdict;
 
-pub use form::first_form;
-pub use operands::interface;
 pub use verdict::{Proof, Verdict, check};

@@ -1,12 +1,12 @@
-ghost use Rattle.std.specs.Prelude.{◌≡◌, ◌++◌, not, slice_get, IfOk, OnOk};
-ghost use Rattle.std.specs.List.{list_any};
-ghost use Rattle.blk_check.specs.Judged.{IsInForm, IsVerdict, OkKeepsFrame, lines_in};
+ghost use Rattle.std.specs.Prelude.{◌≡◌, ◌==◌, ◌++◌, not, slice_get, IfOk, OnOk};
+ghost use Rattle.std.specs.List.{list_all, list_any};
+ghost use Rattle.blk_check.specs.Judged.{IsVerdict, IsLinesVerdict, OkKeepsFrame, has_words, lines_in, lines_in_body};
 ghost use Rattle.blk_check.specs.Verdict.{verdict_of, is_input_alone, finding_if, at_end, moves_to_itself, sets_flags};
 
 use crate::form::{first_form, reads};
 use asm_core::{
-    Body, Cell, Duplicate, END_LINE, Finding, Interface, Items, Mark, Memory, Op, Role, Rule,
-    Statement, Sym,
+    Body, Cell, Duplicate, END_LINE, Finding, Interface, Items, Mark, Memory, Op, OperandIface,
+    Role, Rule, Statement, Sym,
 };
 use std::alloc::Global;
 use std::marker::Model;
@@ -48,18 +48,31 @@ pub enum Verdict {
     Ok(Proof),
     /// Each broken rule, in the order of reports.
     Broken(Items<Finding>),
-    /// What lies outside the tables. No call answers it yet.
+    /// What lies outside the tables.
     Outside(Mark),
+    /// Its template is of no form that is judged so far.
+    NotYet,
 }
 
-/// Judges a statement in the form that is judged so far (`first_form`), given its own interface.
+/// Judges a statement by its interface.
 pub fn check(alloc: Global, statement: &Statement, interface: &Interface) -> Result<Verdict, Memory>
-    requires { IsInForm statement.now interface.now }
     ensures verdict { IfOk result (IsVerdict statement.now interface.now) }
     ensures frame { IfOk result OkKeepsFrame }
 {
-    let Some(lines) = lines_in(alloc, statement)? else {
-        unreachable!()
+    check_lines(alloc, statement, interface)
+}
+
+/// Judges the lines of a statement.
+fn check_lines(
+    alloc: Global,
+    statement: &Statement,
+    interface: &Interface,
+) -> Result<Verdict, Memory>
+    ensures verdict { IfOk result (IsLinesVerdict statement.now interface.now) }
+    ensures frame { IfOk result OkKeepsFrame }
+{
+    let Some(lines) = lines_in(alloc, statement, interface)? else {
+        return Ok(Verdict::NotYet);
     };
     let findings = findings(alloc, interface, lines.as_slice())?;
     if !findings.is_empty() {
@@ -72,11 +85,41 @@ pub fn check(alloc: Global, statement: &Statement, interface: &Interface) -> Res
     }))
 }
 
-/// The lines of a statement in the form that is judged so far.
-fn lines_in(alloc: Global, statement: &Statement) -> Result<Option<Items<Sym>>, Memory>
-    ensures { IfOk result (λ lines. lines ≡ lines_in statement.now) }
+/// The lines of a statement in the form that is judged so far; none of another one.
+fn lines_in(
+    alloc: Global,
+    statement: &Statement,
+    interface: &Interface,
+) -> Result<Option<Items<Sym>>, Memory>
+    ensures { IfOk result (λ lines. lines ≡ lines_in statement.now interface.now) }
 {
-    match &statement.body {
+    if !has_words(interface.operands.as_slice()) {
+        return Ok(None);
+    }
+    lines_in_body(alloc, &statement.body)
+}
+
+/// Whether there are operands, and each has 4 bytes.
+fn has_words(operands: &[OperandIface]) -> bool
+    ensures { result ≡ has_words operands.now }
+{
+    match operands {
+        [] => false,
+        some => are_words(some),
+    }
+}
+
+/// Whether each operand has 4 bytes.
+fn are_words(operands: &[OperandIface]) -> bool
+    ensures { result ≡ list_all (λ (o : OperandIface). o.size == 4) operands.now }
+{
+    operands.iter().all(|operand| operand.size == 4)
+}
+
+fn lines_in_body(alloc: Global, body: &Body) -> Result<Option<Items<Sym>>, Memory>
+    ensures { IfOk result (λ lines. lines ≡ lines_in_body body.now) }
+{
+    match body {
         Body::Parts(parts) => first_form(alloc, parts),
         Body::Outside(_) => Ok(None),
     }

@@ -1,5 +1,4 @@
 mod Examples
-mod FormLaws
 mod FrameLaws
 mod JudgementLaws
 mod PageLaws

@@ -1,57 +1,63 @@
--- What is said of the asm statements of a file, where that is settled so far.
-use Rattle.std.specs.Prelude.{ℕ, List, [], ◌∷◌, Bool, true, false, Option, None, Some, option_map, if◌then◌else◌}
+-- What is said of the asm statements of a file.
+use Rattle.std.specs.Prelude.{◌≡◌, ℕ, List, [], ◌∷◌, ◌++◌, map, Bool, true, false, Option, Result, Ok, Err}
 use Rattle.asm_core.specs.Interface.{interface_of}
+use Rattle.asm_core.specs.declared.operand.Operand.{Operand}
+use Rattle.asm_core.specs.declared.statement.Part.{Part}
 use Rattle.asm_core.specs.declared.statement.Parts.{Parts}
 use Rattle.asm_core.specs.declared.statement.Body.{Body}
 use Rattle.asm_core.specs.declared.statement.Statement.{Statement}
-use Rattle.asm_core.specs.declared.finding.Finding.{Finding}
-use Rattle.blk_check.specs.FirstForm.{first_form_of}
-use Rattle.blk_check.specs.Verdict.{verdict_of}
+use Rattle.asm_core.specs.declared.interface.Interface.{Interface}
+use Rattle.asm_core.specs.declared.interface.IfaceEnd.{IfaceEnd}
+use Rattle.blk_check.specs.Judged.{IsVerdict}
+use Rattle.blk_check.specs.declared.verdict.Verdict.{Verdict}
 use Rattle.c_words.specs.File.{File}
 use Rattle.c_scopes.specs.Seen.{Declared}
-use Rattle.ck_app.specs.Form.{statement_fits}
-use Rattle.ck_app.specs.declared.judgement.Judgement.{Judgement}
+use Rattle.c_exprs.specs.Operands.{operand_of}
 use Rattle.ck_app.specs.declared.judgement.Judged.{Judged}
 
--- what is wrong with a statement whose lines, constraints and clobbers are of the form that is judged so far
-abbrev pub findings_in : Parts → Option (List Finding)
-findings_in parts = option_map (verdict_of (interface_of parts)) (first_form_of parts)
+-- what the operands' expressions are, outputs first
+abbrev pub operands_of : File → Declared → Parts → List (Option Operand)
+operands_of f seen parts = map (λ (p : Part). operand_of f seen p.expr) (parts.outputs ++ parts.inputs)
 
-abbrev pub parts_judgement : File → Declared → Parts → Option Judgement
-parts_judgement f seen parts = if statement_fits f seen parts then option_map Judgement.Findings (findings_in parts) else None
+-- what the parts tell the compiler; flags count as changed where `cc` isn't declared
+abbrev pub interface_in : File → Declared → Parts → Result Interface IfaceEnd
+interface_in f seen parts = interface_of parts (operands_of f seen parts) true
 
--- one that is outside the tables is so whatever else the file holds
-abbrev pub body_judgement : File → Declared → Body → Option Judgement
-body_judgement f seen (Body.Parts parts) = parts_judgement f seen parts
-body_judgement f seen (Body.Outside mark) = Some (Judgement.Outside mark)
+-- the verdict on a statement with this interface, or with none
+abbrev pub IsVerdictBy : Statement → Result Interface IfaceEnd → Verdict → Type 0
+IsVerdictBy s (Ok i) v = IsVerdict s i v
+IsVerdictBy s (Err (IfaceEnd.Outside mark)) v = v ≡ Verdict.Outside mark
+IsVerdictBy s (Err (IfaceEnd.Broken findings)) v = v ≡ Verdict.Broken findings
+IsVerdictBy s (Err IfaceEnd.Memory) v = ⊥
 
--- what is said of a statement; none where it isn't settled
-abbrev pub judgement_of : File → Declared → Statement → Option Judgement
-judgement_of f seen s = body_judgement f seen s.body
+abbrev pub IsBodyVerdict : File → Declared → Statement → Body → Verdict → Type 0
+IsBodyVerdict f seen s (Body.Parts parts) v = IsVerdictBy s (interface_in f seen parts) v
+IsBodyVerdict f seen s (Body.Outside mark) v = v ≡ Verdict.Outside mark
 
--- said of the statement whose keyword is at that offset
-abbrev pub judged_at : ℕ → Judgement → Judged
-judged_at offset j = record { offset = offset; judgement = j }
+-- the verdict on a statement of the file
+abbrev pub IsJudgement : File → Declared → Statement → Verdict → Type 0
+IsJudgement f seen s v = IsBodyVerdict f seen s s.body v
 
-abbrev pub joined : ℕ → Option Judgement → Option (List Judged) → Option (List Judged)
-joined offset None others = None
-joined offset (Some j) None = None
-joined offset (Some j) (Some others) = Some (judged_at offset j ∷ others)
+-- the statement's keyword, and its verdict
+pub record IsJudged (f : File) (seen : Declared) (s : Statement) (j : Judged) : Type 0 where
+  pub offset : j.offset ≡ s.span.from
+  pub verdict : IsJudgement f seen s j.verdict
 
--- what is said of each statement; none where one of them isn't settled
-unfoldable pub judgements_of : File → Declared → List Statement → Option (List Judged)
-judgements_of f seen [] = Some []
-judgements_of f seen (s ∷ ss) = joined s.span.from (judgement_of f seen s) (judgements_of f seen ss)
+-- each statement with its verdict, in their order
+unfoldable pub AreJudged : File → Declared → List Statement → List Judged → Type 0
+AreJudged f seen [] [] = Unit {0}
+AreJudged f seen (s ∷ ss) (j ∷ js) = IsJudged f seen s j × AreJudged f seen ss js
+AreJudged f seen ss js = ⊥
 
-abbrev pub is_any : List Finding → Bool
-is_any [] = false
-is_any (f ∷ fs) = true
+abbrev pub is_broken : Verdict → Bool
+is_broken (Verdict.Broken findings) = true
+is_broken verdict = false
 
--- a rule is broken
-abbrev pub is_broken : Judgement → Bool
-is_broken (Judgement.Findings findings) = is_any findings
-is_broken (Judgement.Outside mark) = false
+abbrev pub is_outside : Verdict → Bool
+is_outside (Verdict.Outside mark) = true
+is_outside verdict = false
 
-abbrev pub is_outside : Judgement → Bool
-is_outside (Judgement.Findings findings) = false
-is_outside (Judgement.Outside mark) = true
+-- it isn't settled
+abbrev pub is_open : Verdict → Bool
+is_open Verdict.NotYet = true
+is_open verdict = false

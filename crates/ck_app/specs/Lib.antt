@@ -1,5 +1,4 @@
 pub mod Answer
-pub mod Form
 pub mod Judge
 pub mod Judgement
 pub mod Place

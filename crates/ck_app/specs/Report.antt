@@ -4,9 +4,9 @@ use Rattle.std.specs.List.{flat_map}
 use Rattle.asm_core.specs.Finding.{finding_text, rule_phrase}
 use Rattle.asm_core.specs.declared.finding.Finding.{Finding}
 use Rattle.asm_core.specs.declared.mark.MarkKind.{MarkKind}
+use Rattle.blk_check.specs.declared.verdict.Verdict.{Verdict}
 use Rattle.c_tokens.specs.Lines.{line_col_of}
 use Rattle.c_tokens.specs.declared.token_end.TokenEnd.{TokenEnd}
-use Rattle.ck_app.specs.declared.judgement.Judgement.{Judgement}
 use Rattle.ck_app.specs.declared.judgement.Judged.{Judged}
 
 -- as `1:20`
@@ -21,10 +21,12 @@ place_text name place = name ++ codes ":" ++ decimal place.0 ++ codes ":" ++ dec
 abbrev pub finding_line : List ℕ → Finding → List ℕ
 finding_line place f = place ++ codes "broken " ++ finding_text f ++ codes ": " ++ rule_phrase f.rule ++ codes "\n"
 
--- the lines of a statement at that place, with what is wrong with it
-abbrev pub statement_lines : List ℕ → List Finding → List ℕ
-statement_lines place [] = place ++ codes "ok\n"
-statement_lines place (f ∷ fs) = flat_map (finding_line place) (f ∷ fs)
+abbrev pub ok_line : List ℕ → List ℕ
+ok_line place = place ++ codes "ok\n"
+
+-- a line for each finding
+abbrev pub finding_lines : List ℕ → List Finding → List ℕ
+finding_lines place findings = flat_map (finding_line place) findings
 
 -- what a kind of mark is called
 abbrev pub kind_name : MarkKind → List ℕ
@@ -41,15 +43,16 @@ kind_name MarkKind.Instruction = codes "instruction"
 abbrev pub mark_line : List ℕ → MarkKind → ℕ × ℕ → List ℕ
 mark_line place kind at = place ++ codes "undecided " ++ kind_name kind ++ codes " at " ++ line_column_text at ++ codes "\n"
 
--- the lines of a statement whose keyword is at an offset
-abbrev pub judgement_lines : List ℕ → List ℕ → ℕ → Judgement → List ℕ
-judgement_lines name text offset (Judgement.Findings findings) = statement_lines (place_text name (line_col_of text offset)) findings
-judgement_lines name text offset (Judgement.Outside mark) =
-    mark_line (place_text name (line_col_of text offset)) mark.kind (line_col_of text mark.place)
+-- the lines of a statement whose keyword is at an offset; none of one that isn't settled
+abbrev pub verdict_lines : List ℕ → List ℕ → ℕ → Verdict → List ℕ
+verdict_lines name text offset (Verdict.Ok proof) = ok_line (place_text name (line_col_of text offset))
+verdict_lines name text offset (Verdict.Broken findings) = finding_lines (place_text name (line_col_of text offset)) findings
+verdict_lines name text offset (Verdict.Outside mark) = mark_line (place_text name (line_col_of text offset)) mark.kind (line_col_of text mark.place)
+verdict_lines name text offset Verdict.NotYet = []
 
 -- the lines of the statements of a file
 abbrev pub judged_lines : List ℕ → List ℕ → List Judged → List ℕ
-judged_lines name text js = flat_map (λ (j : Judged). judgement_lines name text j.offset j.judgement) js
+judged_lines name text js = flat_map (λ (j : Judged). verdict_lines name text j.offset j.verdict) js
 
 abbrev pub cannot_be_read_line : List ℕ → List ℕ
 cannot_be_read_line name = name ++ codes ": cannot be read\n"

@@ -1,10 +1,10 @@
 -- What `run` promises of what it prints and how it ends.
-use Rattle.std.specs.Prelude.{◌≡◌, ◌⊎◌, ℕ, ◌≤◌, List, Bool, true, false, IsTrue, Option, None, Some, IsSome}
+use Rattle.std.specs.Prelude.{◌≡◌, ◌⊎◌, ℕ, ◌≤◌, List, [], Bool, true, false, IsTrue, Option, None, Some, IsSome}
 use Rattle.asm_core.specs.Lists.{IsMember}
 use Rattle.ck_ports.specs.Faults.{Rose, RisesAt}
 use Rattle.ck_ports.specs.Outside.{Outside}
 use Rattle.ck_ports.specs.Written.{Written, Writes, WritesPrefix}
-use Rattle.ck_app.specs.Answer.{Answer, read_answer}
+use Rattle.ck_app.specs.Answer.{Answer, answer, IsReadAnswer}
 use Rattle.ck_app.specs.Judge.{KeepsFrames}
 use Rattle.ck_app.specs.Report.{cannot_be_read_line}
 use Rattle.ck_app.specs.Words.{Command, names_read}
@@ -35,21 +35,29 @@ pub record PrintsPartOfReadFault (command : Option Command) (old new : Outside) 
   pub fault : HasReadFault command old new
   pub part : WritesPrefix (cannot_be_read_line fault.name) before after
 
--- a prefix of the answer was printed or, where a file could not be read, of the line that says so
-abbrev pub PrintsPart : Option Command → Answer → Outside → Outside → Written → Written → Type 0
-PrintsPart command a old new before after = WritesPrefix a.printed before after ⊎ PrintsPartOfReadFault command old new before after
+-- a prefix of the answer was printed
+pub record PrintsPartOfAnswer (Is : Answer → Type 0) (before after : Written) : Type 0 where
+  pub whole : Answer
+  pub is : Is whole
+  pub part : WritesPrefix whole.printed before after
+
+-- Nothing was printed, or a prefix of the answer or, where a file could not be read, of the line that says so.
+abbrev pub PrintsPart : (Answer → Type 0) → Option Command → Outside → Outside → Written → Written → Type 0
+PrintsPart Is command old new before after = WritesPrefix [] before after ⊎ (PrintsPartOfAnswer Is before after ⊎ PrintsPartOfReadFault command old new before after)
 
 -- the whole answer was printed, and the run ends as it says
-pub record GivesAnswer (a : Answer) (status : Status) (before after : Written) : Type 0 where
-  pub status_is : status ≡ a.status
-  pub prints : Writes a.printed before after
+pub record GivesAnswer (Is : Answer → Type 0) (status : Status) (before after : Written) : Type 0 where
+  pub whole : Answer
+  pub is : Is whole
+  pub status_is : status ≡ whole.status
+  pub prints : Writes whole.printed before after
 
 -- what was printed, by how the run ended
-abbrev pub Prints : Status → Option Command → Answer → Outside → Outside → Written → Written → Type 0
-Prints Status.ReadFault command a old new before after = PrintsReadFault command old new before after
-Prints Status.WriteFault command a old new before after = PrintsPart command a old new before after
-Prints Status.Memory command a old new before after = PrintsPart command a old new before after
-Prints status command a old new before after = GivesAnswer a status before after
+abbrev pub Prints : Status → (Answer → Type 0) → Option Command → Outside → Outside → Written → Written → Type 0
+Prints Status.ReadFault Is command old new before after = PrintsReadFault command old new before after
+Prints Status.WriteFault Is command old new before after = PrintsPart Is command old new before after
+Prints Status.Memory Is command old new before after = PrintsPart Is command old new before after
+Prints status Is command old new before after = GivesAnswer Is status before after
 
 -- why a run ended so, whatever is told
 abbrev pub HasCause : Status → Option Command → Outside → Outside → Written → Written → Type 0
@@ -70,11 +78,6 @@ is_page_status Status.WriteFault = false
 is_page_status Status.Memory = false
 is_page_status status = true
 
--- the answer is this text, and the run ends so
-pub record GivesText (a : Answer) (status : Status) (text : List ℕ) : Type 0 where
-  pub status_is : status ≡ a.status
-  pub text_is : text ≡ a.printed
-
 -- what became of printing a text, after which the run was to end so
 abbrev pub IsPrinted : Status → Status → List ℕ → Written → Written → Type 0
 IsPrinted Status.WriteFault asked text before after = Rose before.faults after.faults × (IsTrue before.tells → WritesPrefix text before after)
@@ -87,4 +90,4 @@ IsPageOf Status.ReadFault text name old new = RisesAt old.tells name old.reading
 IsPageOf Status.Usage text name old new = ⊥
 IsPageOf Status.WriteFault text name old new = ⊥
 IsPageOf Status.Memory text name old new = ⊥
-IsPageOf status text name old new = IsTrue old.tells → GivesText (read_answer name (old.file name)) status text
+IsPageOf status text name old new = IsTrue old.tells → IsReadAnswer name (old.file name) (answer text status)

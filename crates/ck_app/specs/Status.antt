@@ -1,5 +1,5 @@
 -- How a run ends, and the exit status of the process.
-use Rattle.std.specs.Prelude.{ℕ, Bool, true, false}
+use Rattle.std.specs.Prelude.{ℕ}
 use Rattle.ck_app.specs.declared.status.Status.{Status}
 use Rattle.ck_app.specs.declared.status.Status.TheVariants.{Done, Rejected, Usage, Undecided, ReadFault, WriteFault, BadText, TooLarge, Memory, NotYet}
 
@@ -14,10 +14,3 @@ code_of BadText = 6
 code_of TooLarge = 7
 code_of Memory = 8
 code_of NotYet = 10
-
--- a run that ends so has printed what is said of each statement
-abbrev pub is_report : Status → Bool
-is_report Done = true
-is_report Rejected = true
-is_report Undecided = true
-is_report status = false

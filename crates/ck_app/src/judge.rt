@@ -1,19 +1,19 @@
 //! What is printed of a file, by its bytes.
 
-ghost use Rattle.std.specs.Prelude.{◌≡◌, ◌<◌, ◌≤◌, Ok, length, IfOk, IsTrue};
+ghost use Rattle.std.specs.Prelude.{◌≡◌, ◌<◌, ◌≤◌, Ok, length, IfOk};
 ghost use Rattle.c_tokens.specs.Cut.{IsOrdered};
 ghost use Rattle.c_tokens.specs.Tokens.{tokens_of};
 ghost use Rattle.c_words.specs.File.{file_of};
 ghost use Rattle.c_decls.specs.Walk.{declarations_of};
 ghost use Rattle.ck_ports.specs.declared.transfer.TheConstants.{MAX_FILE_BYTES};
-ghost use Rattle.ck_app.specs.Answer.{file_answer, tokens_answer, statements_answer};
-ghost use Rattle.ck_app.specs.Judge.{IsPage, EachKeepsFrames, KeepsFrames};
-ghost use Rattle.ck_app.specs.Status.{is_report};
+ghost use Rattle.ck_app.specs.Answer.{IsFileAnswer, judged_answer};
+ghost use Rattle.ck_app.specs.Judge.{answer_in};
+ghost use Rattle.ck_app.specs.Judgement.{AreJudged};
 
 use crate::Status;
-use crate::judgement::{judgements, status};
+use crate::judgement::{Judged, any_open, judge_statements, status};
 use crate::report::{bad_text_line, judged_lines, not_yet_line};
-use asm_core::{Memory, Statement};
+use asm_core::{Items, Memory, Statement};
 use asm_statement::statements;
 use c_decls::scopes;
 use c_tokens::{TokenEnd, Tokens, tokens};
@@ -28,10 +28,10 @@ pub struct Page {
 }
 
 /// The page of a file that holds these bytes.
+#[tactic(auto, using(crate::proofs::PageLaws::page_laws))]
 pub fn judge(alloc: Global, name: &str, text: &[u8]) -> Result<Page, Memory>
     requires { length text.now ≤ MAX_FILE_BYTES }
-    ensures answer { IfOk result (λ page. IsPage page (file_answer name.now text.now)) }
-    ensures framed { IfOk result (λ page. IsTrue (is_report page.status) → KeepsFrames text.now) }
+    ensures { IfOk result (λ page. IsFileAnswer name.now text.now (answer_in page)) }
 {
     match tokens(alloc, text) {
         Ok(tokens) => judge_tokens(alloc, name, text, &tokens),
@@ -43,50 +43,55 @@ pub fn judge(alloc: Global, name: &str, text: &[u8]) -> Result<Page, Memory>
     }
 }
 
-/// A file without statements is done before its declarations are read.
+#[tactic(auto, using(crate::proofs::PageLaws::page_laws))]
 fn judge_tokens(alloc: Global, name: &str, text: &[u8], tokens: &Tokens) -> Result<Page, Memory>
     requires small { length text.now ≤ MAX_FILE_BYTES }
     requires few { length tokens.now.list ≤ length text.now }
     requires ordered { IsOrdered 0 tokens.now.list (length text.now) }
     requires of_text { tokens_of text.now ≡ Ok tokens.now.list }
-    ensures answer { IfOk result (λ page. IsPage page (tokens_answer name.now text.now (Ok tokens.now.list))) }
-    ensures framed { IfOk result (λ page. IsTrue (is_report page.status) → KeepsFrames text.now) }
+    ensures { IfOk result (λ page. IsFileAnswer name.now text.now (answer_in page)) }
 {
     let statements = statements(alloc, tokens, text)?;
-    match statements.as_slice() {
-        [] => Ok(Page {
-            text: String::new(alloc),
-            status: Status::Done,
-        }),
-        some => judge_statements(alloc, name, text, tokens, some),
-    }
+    let judged = verdicts(alloc, text, tokens, statements.as_slice())?;
+    page_of(alloc, name, text, judged.as_slice())
 }
 
-/// The page of a file with these statements.
-fn judge_statements(
+/// The statements with their verdicts. The declarations of a file without statements aren't read.
+#[tactic(auto, using(crate::proofs::JudgementLaws::judged_steps))]
+fn verdicts(
     alloc: Global,
-    name: &str,
     text: &[u8],
     tokens: &Tokens,
     statements: &[Statement],
-) -> Result<Page, Memory>
+) -> Result<Items<Judged>, Memory>
     requires small { length text.now ≤ MAX_FILE_BYTES }
     requires few { length tokens.now.list ≤ length text.now }
     requires ordered { IsOrdered 0 tokens.now.list (length text.now) }
-    ensures answer { IfOk result (λ page. IsPage page (statements_answer name.now (file_of text.now tokens.now.list) statements.now)) }
-    ensures framed { IfOk result (λ page. IsTrue (is_report page.status)
-        → EachKeepsFrames (file_of text.now tokens.now.list) (declarations_of (file_of text.now tokens.now.list)) statements.now) }
+    ensures { IfOk result (AreJudged (file_of text.now tokens.now.list) (declarations_of (file_of text.now tokens.now.list)) statements.now) }
 {
-    let source = Source::new(alloc, text, tokens)?;
-    let scopes = scopes(alloc, tokens, text)?;
-    match judgements(alloc, &source, &scopes, statements)? {
-        Some(judged) => Ok(Page {
-            text: judged_lines(alloc, name, text, judged.as_slice())?,
-            status: status(judged.as_slice()),
-        }),
-        None => Ok(Page {
+    match statements {
+        [] => Ok(Items::new(alloc)),
+        some => {
+            let source = Source::new(alloc, text, tokens)?;
+            let scopes = scopes(alloc, tokens, text)?;
+            judge_statements(alloc, &source, &scopes, some)
+        }
+    }
+}
+
+/// The page of a file whose statements have these verdicts.
+fn page_of(alloc: Global, name: &str, text: &[u8], judged: &[Judged]) -> Result<Page, Memory>
+    requires { length text.now ≤ MAX_FILE_BYTES }
+    ensures { IfOk result (λ page. answer_in page ≡ judged_answer name.now text.now judged.now) }
+{
+    if any_open(judged) {
+        return Ok(Page {
             text: not_yet_line(alloc, name)?,
             status: Status::NotYet,
-        }),
+        });
     }
+    Ok(Page {
+        text: judged_lines(alloc, name, text, judged)?,
+        status: status(judged),
+    })
 }

@@ -1,109 +1,122 @@
-//! What is said of the asm statements of a file.
+//! The verdicts on the asm statements of a file.
 
-ghost use Rattle.std.specs.Prelude.{◌≡◌, [], Some, Ok, length, IfOk, IfSome, IsSome, option_map};
+ghost use Rattle.std.specs.Prelude.{◌≡◌, ◌++◌, map, length, IfOk, OnOk};
 ghost use Rattle.std.specs.List.{list_any};
+ghost use Rattle.asm_core.specs.declared.statement.Body.{Body};
 ghost use Rattle.c_tokens.specs.Cut.{IsOrdered};
+ghost use Rattle.c_exprs.specs.Operands.{operand_of};
 ghost use Rattle.ck_app.specs.Answer.{status_of};
-ghost use Rattle.ck_app.specs.Judgement.{findings_in, parts_judgement, judgement_of, judgements_of, is_any, is_broken, is_outside};
-ghost use Rattle.ck_app.specs.Judge.{KeepsFramesOf, OkKeepsFrames, EachKeepsFrames};
+ghost use Rattle.ck_app.specs.Judgement.{operands_of, interface_in, IsJudgement, IsVerdictBy, AreJudged, is_broken, is_outside, is_open};
 
 use crate::Status;
-use crate::form::statement_fits;
-use asm_core::{Body, Finding, Items, Mark, Memory, Parts, Statement};
-use blk_check::{Verdict, check, first_form, interface};
+use asm_constraints::interface;
+use asm_core::{Body, IfaceEnd, Items, Memory, Operand, Part, Parts, Statement};
+use blk_check::{Verdict, check};
+use c_exprs::operand_in;
 use c_scopes::Scopes;
 use c_words::Source;
 use std::alloc::Global;
 
-/// What is said of a statement.
-#[derive(Debug, Drop)]
-pub enum Judgement {
-    /// Each broken rule, in the order of reports; accepted where there is none.
-    Findings(Items<Finding>),
-    /// What lies outside the tables.
-    Outside(Mark),
-}
+/// Whether flags that change without `cc` break a rule.
+const STRICT: bool = true;
 
-/// A statement of which something is said.
+/// A statement with its verdict.
 #[derive(Debug, Drop)]
 pub struct Judged {
     /// The offset of its keyword.
     pub offset: u32,
-    pub judgement: Judgement,
+    pub verdict: Verdict,
 }
 
-/// What is said of each statement; none where one of them isn't settled.
-#[tactic(auto, using(crate::proofs::JudgementLaws::judgement_steps))]
-pub fn judgements(
+/// Each statement with its verdict, in their order.
+#[tactic(auto, using(crate::proofs::JudgementLaws::judged_steps))]
+pub fn judge_statements(
     alloc: Global,
     source: &Source<'_>,
     scopes: &Scopes,
     statements: &[Statement],
-) -> Result<Option<Items<Judged>>, Memory>
+) -> Result<Items<Judged>, Memory>
     requires { IsOrdered 0 source.now.tokens (length source.now.text) }
-    ensures is { IfOk result (λ judged. judged ≡ judgements_of source.now scopes.now statements.now) }
-    ensures framed { IfOk result (λ judged. IfSome judged (λ _. EachKeepsFrames source.now scopes.now statements.now)) }
+    ensures { IfOk result (AreJudged source.now scopes.now statements.now) }
 {
     let mut judged = Items::new(alloc);
     for statement in statements {
-        let Some(judgement) = judge_statement(alloc, source, scopes, statement)? else {
-            return Ok(None);
-        };
         judged.push(Judged {
             offset: statement.span.from,
-            judgement,
+            verdict: judge_statement(alloc, source, scopes, statement)?,
         })?;
     }
-    Ok(Some(judged))
+    Ok(judged)
 }
 
-/// What is said of a statement; none where it isn't settled.
 fn judge_statement(
     alloc: Global,
     source: &Source<'_>,
     scopes: &Scopes,
     statement: &Statement,
-) -> Result<Option<Judgement>, Memory>
+) -> Result<Verdict, Memory>
     requires { IsOrdered 0 source.now.tokens (length source.now.text) }
-    ensures is { IfOk result (λ judgement. judgement ≡ judgement_of source.now scopes.now statement.now) }
-    ensures framed { IfOk result (λ judgement. judgement ≡ Some (Judgement.Findings []) → KeepsFramesOf statement.now) }
+    ensures { IfOk result (IsJudgement source.now scopes.now statement.now) }
 {
-    let parts = match &statement.body {
-        Body::Parts(parts) => parts,
-        Body::Outside(mark) => return Ok(Some(Judgement::Outside(*mark))),
-    };
-    let Some(findings) = findings(alloc, statement, parts)? else {
-        return Ok(None);
-    };
-    if !statement_fits(alloc, source, scopes, parts)? {
-        return Ok(None);
+    match &statement.body {
+        Body::Parts(parts) => judge_parts(alloc, source, scopes, statement, parts),
+        Body::Outside(mark) => Ok(Verdict::Outside(*mark)),
     }
-    Ok(Some(Judgement::Findings(findings)))
 }
 
-/// What is wrong with a statement with these parts, if its lines, constraints and clobbers are of the form that is judged so
-/// far.
-fn findings(
+/// The verdict on a statement that has these parts.
+fn judge_parts(
     alloc: Global,
+    source: &Source<'_>,
+    scopes: &Scopes,
     statement: &Statement,
     parts: &Parts,
-) -> Result<Option<Items<Finding>>, Memory>
-    requires { statement.now.body ≡ Body.Parts parts.now }
-    ensures is { IfOk result (λ findings. findings ≡ findings_in parts.now) }
-    ensures framed { IfOk result (λ findings. findings ≡ Some [] → KeepsFramesOf statement.now) }
+) -> Result<Verdict, Memory>
+    requires { IsOrdered 0 source.now.tokens (length source.now.text) }
+    ensures { IfOk result (IsVerdictBy statement.now (interface_in source.now scopes.now parts.now)) }
 {
-    let Some(_) = first_form(alloc, parts)? else {
-        return Ok(None);
-    };
-    let interface = interface(alloc, parts)?;
-    match check(alloc, statement, &interface)? {
-        Verdict::Ok(_) => Ok(Some(Items::new(alloc))),
-        Verdict::Broken(findings) => Ok(Some(findings)),
-        Verdict::Outside(_) => unreachable!(),
+    let operands = operands(alloc, source, scopes, parts)?;
+    match interface(alloc, parts, operands.as_slice(), STRICT) {
+        Ok(interface) => check(alloc, statement, &interface),
+        Err(IfaceEnd::Outside(mark)) => Ok(Verdict::Outside(mark)),
+        Err(IfaceEnd::Broken(findings)) => Ok(Verdict::Broken(findings)),
+        Err(IfaceEnd::Memory) => Err(Memory),
     }
 }
 
-/// How a run ends that says this of the statements of a file.
+/// What the expressions of the operands are, outputs first; none of one without a type.
+fn operands(
+    alloc: Global,
+    source: &Source<'_>,
+    scopes: &Scopes,
+    parts: &Parts,
+) -> Result<Items<Option<Operand>>, Memory>
+    requires { IsOrdered 0 source.now.tokens (length source.now.text) }
+    ensures { IfOk result (λ operands. operands ≡ operands_of source.now scopes.now parts.now) }
+{
+    let mut operands = Items::new(alloc);
+    append_operands(alloc, source, scopes, &mut operands, parts.outputs.as_slice())?;
+    append_operands(alloc, source, scopes, &mut operands, parts.inputs.as_slice())?;
+    Ok(operands)
+}
+
+fn append_operands(
+    alloc: Global,
+    source: &Source<'_>,
+    scopes: &Scopes,
+    operands: &mut Items<Option<Operand>>,
+    parts: &[Part],
+) -> Result<(), Memory>
+    requires { IsOrdered 0 source.now.tokens (length source.now.text) }
+    ensures { OnOk result (operands.new ≡ operands.old ++ map (λ (p : Part). operand_of source.now scopes.now p.expr) parts.now) }
+{
+    for part in parts {
+        operands.push(operand_in(alloc, source, scopes, part.expr)?)?;
+    }
+    Ok(())
+}
+
+/// How a run ends that says this of the statements of a file, each of them being settled.
 pub fn status(judged: &[Judged]) -> Status
     ensures { result ≡ status_of judged.now }
 {
@@ -117,46 +130,40 @@ pub fn status(judged: &[Judged]) -> Status
 }
 
 fn any_broken(judged: &[Judged]) -> bool
-    ensures { result ≡ list_any (λ (j : Judged). is_broken j.judgement) judged.now }
+    ensures { result ≡ list_any (λ (j : Judged). is_broken j.verdict) judged.now }
 {
-    judged
-        .iter()
-        .any(|statement| statement.judgement.is_broken())
+    judged.iter().any(|statement| is_broken(&statement.verdict))
 }
 
 fn any_outside(judged: &[Judged]) -> bool
-    ensures { result ≡ list_any (λ (j : Judged). is_outside j.judgement) judged.now }
+    ensures { result ≡ list_any (λ (j : Judged). is_outside j.verdict) judged.now }
 {
     judged
         .iter()
-        .any(|statement| statement.judgement.is_outside())
+        .any(|statement| is_outside(&statement.verdict))
 }
 
-impl Judgement {
-    fn is_broken(&self) -> bool
-        ensures { result ≡ is_broken self.now }
-    {
-        match self {
-            Judgement::Findings(findings) => is_any(findings.as_slice()),
-            Judgement::Outside(_) => false,
-        }
-    }
-
-    fn is_outside(&self) -> bool
-        ensures { result ≡ is_outside self.now }
-    {
-        match self {
-            Judgement::Findings(_) => false,
-            Judgement::Outside(_) => true,
-        }
-    }
-}
-
-fn is_any(findings: &[Finding]) -> bool
-    ensures { result ≡ is_any findings.now }
+/// Whether some statement isn't settled.
+pub fn any_open(judged: &[Judged]) -> bool
+    ensures { result ≡ list_any (λ (j : Judged). is_open j.verdict) judged.now }
 {
-    match findings {
-        [] => false,
-        [_, ..] => true,
-    }
+    judged.iter().any(|statement| is_open(&statement.verdict))
+}
+
+fn is_broken(verdict: &Verdict) -> bool
+    ensures { result ≡ is_broken verdict.now }
+{
+    matches!(verdict, Verdict::Broken(_))
+}
+
+fn is_outside(verdict: &Verdict) -> bool
+    ensures { result ≡ is_outside verdict.now }
+{
+    matches!(verdict, Verdict::Outside(_))
+}
+
+fn is_open(verdict: &Verdict) -> bool
+    ensures { result ≡ is_open verdict.now }
+{
+    matches!(verdict, Verdict::NotYet)
 }

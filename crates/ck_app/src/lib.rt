@@ -1,7 +1,6 @@
 //! asmck: what its words ask for, done over files and an output that the caller hands in.
 #![tactic(auto)]
 
-mod form;
 mod judge;
 mod judgement;
 mod report;

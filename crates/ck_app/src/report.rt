@@ -1,11 +1,11 @@
 ghost use Rattle.std.specs.Prelude.{◌≡◌, ◌<◌, ◌++◌, Some, length, IfOk, OnOk};
-ghost use Rattle.std.specs.List.{flat_map};
 ghost use Rattle.std.specs.String.{string_bytes};
-ghost use Rattle.ck_app.specs.Report.{judged_lines, judgement_lines, statement_lines, finding_line, mark_line, kind_name, place_text, bad_text_line, fault_of, cannot_be_read_line, too_large_line, not_yet_line};
+ghost use Rattle.ck_app.specs.Report.{judged_lines, verdict_lines, ok_line, finding_lines, finding_line, mark_line, kind_name, place_text, bad_text_line, fault_of, cannot_be_read_line, too_large_line, not_yet_line};
 ghost use Rattle.c_tokens.specs.Lines.{line_col_of};
 
-use crate::judgement::{Judged, Judgement};
+use crate::judgement::Judged;
 use asm_core::{Finding, Mark, MarkKind, Memory};
+use blk_check::Verdict;
 use c_tokens::{LineStarts, TokenEnd, line_col};
 use std::alloc::Global;
 use std::fmt;
@@ -118,47 +118,39 @@ pub fn judged_lines(
     let places = Places::new(alloc, name, text)?;
     let mut lines = String::new(alloc);
     for statement in judged {
-        append_judgement(&mut lines, &places, statement.offset, &statement.judgement)?;
+        append_verdict(&mut lines, &places, statement.offset, &statement.verdict)?;
     }
     Ok(lines)
 }
 
-/// Appends the lines of the statement whose keyword is at that offset.
-fn append_judgement(
+/// Appends the lines of the statement whose keyword is at that offset; none of one that isn't settled.
+fn append_verdict(
     lines: &mut String,
     places: &Places<'_>,
     offset: u32,
-    judgement: &Judgement,
+    verdict: &Verdict,
 ) -> Result<(), Memory>
-    ensures { OnOk result (string_bytes lines.new ≡ string_bytes lines.old ++ judgement_lines places.now.0 places.now.1 offset judgement.now) }
+    ensures { OnOk result (string_bytes lines.new ≡ string_bytes lines.old ++ verdict_lines places.now.0 places.now.1 offset verdict.now) }
 {
-    match judgement {
-        Judgement::Findings(findings) => {
-            append_statement(lines, places.place(offset), findings.as_slice())
+    match verdict {
+        Verdict::Ok(_) => append_ok(lines, places.place(offset)),
+        Verdict::Broken(findings) => {
+            append_findings(lines, places.place(offset), findings.as_slice())
         }
-        Judgement::Outside(mark) => append_mark(lines, places, offset, *mark),
+        Verdict::Outside(mark) => append_mark(lines, places, offset, *mark),
+        Verdict::NotYet => Ok(()),
     }
 }
 
-/// Appends the lines of the statement at that place: accepted, or what is wrong with it.
-fn append_statement(
-    lines: &mut String,
-    place: Place<'_>,
-    findings: &[Finding],
-) -> Result<(), Memory>
-    ensures { OnOk result (string_bytes lines.new ≡ string_bytes lines.old ++ statement_lines (place_text place.entry.name.now (place.entry.line, place.entry.column)) findings.now) }
+fn append_ok(lines: &mut String, place: Place<'_>) -> Result<(), Memory>
+    ensures { OnOk result (string_bytes lines.new ≡ string_bytes lines.old ++ ok_line (place_text place.entry.name.now (place.entry.line, place.entry.column))) }
 {
-    match findings {
-        [] => {
-            write!(lines, "{place}ok\n")?;
-            Ok(())
-        }
-        [_, ..] => append_findings(lines, place, findings),
-    }
+    write!(lines, "{place}ok\n")?;
+    Ok(())
 }
 
 fn append_findings(lines: &mut String, place: Place<'_>, findings: &[Finding]) -> Result<(), Memory>
-    ensures { OnOk result (string_bytes lines.new ≡ string_bytes lines.old ++ flat_map (finding_line (place_text place.entry.name.now (place.entry.line, place.entry.column))) findings.now) }
+    ensures { OnOk result (string_bytes lines.new ≡ string_bytes lines.old ++ finding_lines (place_text place.entry.name.now (place.entry.line, place.entry.column)) findings.now) }
 {
     for finding in findings {
         append_finding(lines, place, finding)?;

@@ -1,10 +1,9 @@
-ghost use Rattle.std.specs.Prelude.{◌≡◌, ◌≤◌, true, map, Some, IfOk, IsTrue};
+ghost use Rattle.std.specs.Prelude.{◌≡◌, ◌≤◌, true, map, Some, IfOk};
 ghost use Rattle.std.specs.String.{string_bytes};
 ghost use Rattle.ck_ports.specs.declared.files.Mode.TheVariants.{Closed};
 ghost use Rattle.ck_ports.specs.Faults.{CountsAt};
 ghost use Rattle.ck_ports.specs.Outside.{SameFiles};
-ghost use Rattle.ck_app.specs.Answer.{answer_of, read_answer};
-ghost use Rattle.ck_app.specs.Status.{is_report};
+ghost use Rattle.ck_app.specs.Answer.{IsAnswer, IsReadAnswer};
 ghost use Rattle.ck_app.specs.Words.{check_command, command_of};
 ghost use Rattle.ck_app.specs.Run.{Tells, Prints, HasCause, CountsReads, OkIsFramed, IsPageOf, IsPrinted, is_page_status};
 
@@ -28,16 +27,15 @@ pub fn run<F: Files, K: Sink>(alloc: Global, words: &[String], files: &mut F, ou
 
     // What is printed, by how the run ended: the answer, unless something was refused.
     ensures prints { Tells (F.outside files.old) (K.written out.old)
-        → Prints result (command_of (map string_bytes words.now)) (answer_of (map string_bytes words.now) (F.outside files.old).file)
+        → Prints result (IsAnswer (map string_bytes words.now) (F.outside files.old).file) (command_of (map string_bytes words.now))
         (F.outside files.old) (F.outside files.new) (K.written out.old) (K.written out.new) }
 
     // Each refusal has its cause, also where nothing is told.
     ensures cause { HasCause result (command_of (map string_bytes words.now))
         (F.outside files.old) (F.outside files.new) (K.written out.old) (K.written out.new) }
 
-    // Each statement that is printed `ok` changes only what it declares.
-    ensures framed { Tells (F.outside files.old) (K.written out.old) → IsTrue (is_report result)
-        → OkIsFramed (command_of (map string_bytes words.now)) (F.outside files.old) }
+    // Each statement that is accepted changes only what it declares.
+    ensures framed { OkIsFramed (command_of (map string_bytes words.now)) (F.outside files.old) }
 
     // No file is changed, all are closed, and only a file that the words tell to read could not be read.
     ensures closed { (F.outside files.new).mode ≡ Closed }
@@ -58,12 +56,10 @@ fn check_file<F: Files, K: Sink>(alloc: Global, name: &str, files: &mut F, out: 
     requires { (F.outside files.old).mode ≡ Closed }
 
     ensures prints { Tells (F.outside files.old) (K.written out.old)
-        → Prints result (Some (check_command name.now)) (read_answer name.now ((F.outside files.old).file name.now))
+        → Prints result (IsReadAnswer name.now ((F.outside files.old).file name.now)) (Some (check_command name.now))
         (F.outside files.old) (F.outside files.new) (K.written out.old) (K.written out.new) }
     ensures cause { HasCause result (Some (check_command name.now))
         (F.outside files.old) (F.outside files.new) (K.written out.old) (K.written out.new) }
-    ensures framed { Tells (F.outside files.old) (K.written out.old) → IsTrue (is_report result)
-        → OkIsFramed (Some (check_command name.now)) (F.outside files.old) }
 
     ensures closed { (F.outside files.new).mode ≡ Closed }
     ensures files { SameFiles (F.outside files.old) (F.outside files.new) }
@@ -84,8 +80,6 @@ fn page_of<F: Files>(alloc: Global, name: &str, files: &mut F) -> Result<Page, M
     requires { (F.outside files.old).mode ≡ Closed }
 
     ensures page { IfOk result (λ page. IsPageOf page.status (string_bytes page.text) name.now (F.outside files.old) (F.outside files.new)) }
-    ensures framed { IfOk result (λ page. IsTrue (F.outside files.old).tells → IsTrue (is_report page.status)
-        → OkIsFramed (Some (check_command name.now)) (F.outside files.old)) }
 
     ensures closed { (F.outside files.new).mode ≡ Closed }
     ensures files { SameFiles (F.outside files.old) (F.outside files.new) }

@@ -1,6 +1,5 @@
-use Rattle.std.proofs.Common.{◌≡◌, Some, sym, ◌∙◌, ap, subst}
+use Rattle.std.proofs.Common.{◌≡◌, Some, sym, ◌∙◌, ap}
 use Rattle.std.specs.String.{string_bytes}
-use Rattle.ck_app.specs.Judge.{KeepsFrames}
 use Rattle.ck_app.proofs.PageLaws.{judged_page}
 use Rattle.ck_app.proofs.runner.page_of.Goals as goal
 
@@ -8,10 +7,4 @@ pub returns-in_ok-judge-in-Ok-clause-page : goal.returns-in_ok-judge-in-Ok-claus
 returns-in_ok-judge-in-Ok-clause-page g c =
     judged_page c.args.name.now c.as_slice.result.now (g.F.Files.outside c.args.files.now) (g.F.Files.outside c.read_all.new.files)
     (λ told. c.in-Ok.ensures.whole told ∙ ap Some (sym c.as_slice.ensures))
-    c.in_ok-judge-in-Ok.field-0.status (string_bytes c.in_ok-judge-in-Ok.field-0.text) c.in_ok-judge-in-Ok.ensures.answer.status c.in_ok-judge-in-Ok.ensures.answer.text
-
-pub returns-in_ok-judge-in-Ok-clause-framed : goal.returns-in_ok-judge-in-Ok-clause-framed
-returns-in_ok-judge-in-Ok-clause-framed g c = λ told reports text is_text.
-    let there = c.in-Ok.ensures.whole told in
-    let same : c.as_slice.result.now ≡ text = cc (c.as_slice.ensures, there, is_text) in
-    subst KeepsFrames same (c.in_ok-judge-in-Ok.ensures.framed reports)
+    c.in_ok-judge-in-Ok.field-0.status (string_bytes c.in_ok-judge-in-Ok.field-0.text) c.in_ok-judge-in-Ok.ensures

@@ -4,10 +4,6 @@ use Rattle.ck_app.specs.declared.status.Status.{Status}
 use Rattle.ck_app.proofs.PrintLaws.{usage_prints}
 use Rattle.ck_app.proofs.runner.run.Goals as goal
 
-pub returns-in-Some-clause-framed : goal.returns-in-Some-clause-framed
-returns-in-Some-clause-framed g c = λ told reports.
-    subst (λ command. OkIsFramed command (g.F.Files.outside c.args.files.now)) c.in-Some.ensures (c.check_file.ensures.framed told reports)
-
 pub returns-in-None-clause-prints : goal.returns-in-None-clause-prints
 returns-in-None-clause-prints g c = λ told.
     let before = g.K.Sink.written c.args.out.now in
