@@ -1,6 +1,6 @@
 -- Statements in the first form and their verdicts.
 use Rattle.std.proofs.Common.{◌≡◌, ℕ, pos, List, [], ◌∷◌, codes, None, Some, refl}
-use Rattle.asm_core.specs.Interface.{interface_of}
+use Rattle.blk_check.specs.FirstInterface.{first_interface_of}
 use Rattle.asm_core.specs.declared.span.Span.{Span}
 use Rattle.asm_core.specs.declared.inst.Op.{Op}
 use Rattle.asm_core.specs.declared.sym.Arg.{Arg}
@@ -43,7 +43,7 @@ its_lines : first_form_of copy_and_add ≡ Some (move (operand 1) ∷ sum (numbe
 unfolding lines_from
 its_lines = refl
 
-it_is_accepted : verdict_of (interface_of copy_and_add) (move (operand 1) ∷ sum (number 3) ∷ []) ≡ []
+it_is_accepted : verdict_of (first_interface_of copy_and_add) (move (operand 1) ∷ sum (number 3) ∷ []) ≡ []
 it_is_accepted = refl
 
 -- `__asm__("addl $1,%0"::"r"(x))`
@@ -54,7 +54,7 @@ input_lines : first_form_of add_to_input ≡ Some (sum (number 1) ∷ [])
 unfolding lines_from
 input_lines = refl
 
-input_findings : verdict_of (interface_of add_to_input) (sum (number 1) ∷ [])
+input_findings : verdict_of (first_interface_of add_to_input) (sum (number 1) ∷ [])
     ≡ record { rule = Rule.W2; line = 513; cell = Cell.Operand 0; other = Cell.Nothing } ∷ record { rule = Rule.W3; line = 513; cell = Cell.Cc; other = Cell.Nothing } ∷ []
 input_findings = refl
 
@@ -63,11 +63,11 @@ kept_input : first_form_of (statement (codes "movl %0,%0; movl %0,%0") [] (part 
 unfolding lines_from
 kept_input = refl
 
-kept_is_accepted : verdict_of (interface_of (statement [] [] (part (codes "r") ∷ []) [])) (move (operand 0) ∷ move (operand 0) ∷ []) ≡ []
+kept_is_accepted : verdict_of (first_interface_of (statement [] [] (part (codes "r") ∷ []) [])) (move (operand 0) ∷ move (operand 0) ∷ []) ≡ []
 kept_is_accepted = refl
 
 -- `__asm__("addl %1,%0":"+r"(y):"r"(x))`: the flags are changed
-flags_changed : verdict_of (interface_of (statement (codes "addl %1,%0") (part (codes "+r") ∷ []) (part (codes "r") ∷ []) [])) (sum (operand 1) ∷ []) ≡ record { rule = Rule.W3; line = 513; cell = Cell.Cc; other = Cell.Nothing } ∷ []
+flags_changed : verdict_of (first_interface_of (statement (codes "addl %1,%0") (part (codes "+r") ∷ []) (part (codes "r") ∷ []) [])) (sum (operand 1) ∷ []) ≡ record { rule = Rule.W3; line = 513; cell = Cell.Cc; other = Cell.Nothing } ∷ []
 flags_changed = refl
 
 -- ---- what is of another form

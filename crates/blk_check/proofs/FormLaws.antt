@@ -2,7 +2,7 @@
 use Rattle.std.proofs.Common.{◌≡◌, ◌⊎◌, inl, inr, ⊎_elim, ℕ, zero, suc, ◌+◌, ◌-◌, ◌*◌, ◌≤◌, ◌==◌, nat_le, nat_lt, ◌&&◌, pos, List, [], ◌∷◌, ◌++◌, map, length, drop, codes, Bool, true, false, Option, None, Some, option_map, slice_get, slice_index, slice_range, if◌then◌else◌, refl, sym, subst, arith}
 use Rattle.std.specs.Char.{is_ascii_digit}
 use Rattle.std.proofs.lemmas.Bool.{leb-true}
-use Rattle.asm_core.specs.Interface.{interface_of, register_operand}
+use Rattle.blk_check.specs.FirstInterface.{first_interface_of, register_operand}
 use Rattle.asm_core.specs.declared.inst.Op.{Op}
 use Rattle.asm_core.specs.declared.inst.Width.{Width}
 use Rattle.asm_core.specs.declared.inst.Repeat.{Repeat}
@@ -157,7 +157,7 @@ first_form_parts parts lines e =
     record { inputs = tests.0; clobbers = tests.1; template = found.0; fit = found.1; first = lines_from-first 100 parts.template.bytes parts.template.at 0 lines found.0 }
 
 -- there is an operand 0
-pub first_operand : (parts : Parts) → inputs_fit parts.inputs ≡ true → (o : OperandIface) × (slice_get (interface_of parts).operands 0 ≡ Some o)
+pub first_operand : (parts : Parts) → inputs_fit parts.inputs ≡ true → (o : OperandIface) × (slice_get (first_interface_of parts).operands 0 ≡ Some o)
 first_operand parts e = go parts.outputs parts.inputs e
   where
     go : (outputs inputs : List Part) → inputs_fit inputs ≡ true → (o : OperandIface) × (slice_get (map register_operand (outputs ++ inputs)) 0 ≡ Some o)

@@ -4,7 +4,7 @@ use Rattle.std.specs.List.{list_any}
 use Rattle.std.proofs.lemmas.Bool.{cases_Bool, or_parts, eqb-true}
 use Rattle.std.proofs.lemmas.Option.{slice_get-map}
 use Rattle.asm_core.specs.Lists.{IsMember}
-use Rattle.asm_core.specs.Interface.{interface_of}
+use Rattle.blk_check.specs.FirstInterface.{first_interface_of}
 use Rattle.asm_core.specs.Placement.{spot_of, value_registers, is_output, IsAllowed}
 use Rattle.asm_core.specs.Shape.{shapes_of}
 use Rattle.asm_core.specs.Entry.{IsEntry}
@@ -191,18 +191,18 @@ module _ (i : Interface) (s : Shape) (p : Placement) (entry : Machine) (lines : 
   framed (Outcome.Failed fault m) e = keeps_weaken (MayChange i s p entry) (MayDiffer i s p entry) entry m on_the_way e
 
 -- a statement in the first form without findings changes only declared outputs and clobbers
-pub accepted_frame : (parts : Parts) (lines : List Sym) → first_form_of parts ≡ Some lines → verdict_of (interface_of parts) lines ≡ [] → KeepsFrame (interface_of parts) lines
+pub accepted_frame : (parts : Parts) (lines : List Sym) → first_form_of parts ≡ Some lines → verdict_of (first_interface_of parts) lines ≡ [] → KeepsFrame (first_interface_of parts) lines
 accepted_frame parts lines is_first no_findings = record { each = each }
   where
     form : IsFirstForm parts lines
     form = first_form_parts parts lines is_first
 
-    zeroth : (o : OperandIface) × (slice_get (interface_of parts).operands 0 ≡ Some o)
+    zeroth : (o : OperandIface) × (slice_get (first_interface_of parts).operands 0 ≡ Some o)
     zeroth = first_operand parts form.inputs
 
-    each : (s : Shape) (p : Placement) (entry : Machine) (n : ℕ) (choices : List ℕ) (outside : List (List ℕ)) → IsMember s (shapes_of (interface_of parts)) → IsAllowed (interface_of parts) s p → IsEntry (interface_of parts) s p entry
-        → IsFramed (interface_of parts) s p entry (run_of (code_of p lines) n choices outside entry)
+    each : (s : Shape) (p : Placement) (entry : Machine) (n : ℕ) (choices : List ℕ) (outside : List (List ℕ)) → IsMember s (shapes_of (first_interface_of parts)) → IsAllowed (first_interface_of parts) s p → IsEntry (first_interface_of parts) s p entry
+        → IsFramed (first_interface_of parts) s p entry (run_of (code_of p lines) n choices outside entry)
     each s p entry n choices outside shape allowed begins =
-        framed (interface_of parts) s p entry lines (run_of (code_of p lines) n choices outside entry)
-        (runs_in (Keeps (MayChange (interface_of parts) s p entry) entry) (code_of p lines)
-        (code_keeps (interface_of parts) s p entry lines zeroth.0 zeroth.1 (accepted (interface_of parts) lines no_findings) form.first) n choices outside entry (keeps_refl (MayChange (interface_of parts) s p entry) entry))
+        framed (first_interface_of parts) s p entry lines (run_of (code_of p lines) n choices outside entry)
+        (runs_in (Keeps (MayChange (first_interface_of parts) s p entry) entry) (code_of p lines)
+        (code_keeps (first_interface_of parts) s p entry lines zeroth.0 zeroth.1 (accepted (first_interface_of parts) lines no_findings) form.first) n choices outside entry (keeps_refl (MayChange (first_interface_of parts) s p entry) entry))

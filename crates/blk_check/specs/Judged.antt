@@ -1,6 +1,6 @@
 -- What `check` answers.
 use Rattle.std.specs.Prelude.{◌≡◌, ◌≢◌, List, [], Option, None, Some}
-use Rattle.asm_core.specs.Interface.{interface_of}
+use Rattle.blk_check.specs.FirstInterface.{first_interface_of}
 use Rattle.asm_core.specs.Frame.{KeepsFrame}
 use Rattle.asm_core.specs.declared.statement.Parts.{Parts}
 use Rattle.asm_core.specs.declared.statement.Body.{Body}
@@ -25,7 +25,7 @@ pub record IsInForm (s : Statement) (i : Interface) : Type 0 where
   pub lines : List Sym
   pub is_parts : s.body ≡ Body.Parts parts
   pub in_form : first_form_of parts ≡ Some lines
-  pub is_interface : i ≡ interface_of parts
+  pub is_interface : i ≡ first_interface_of parts
 
 -- accepted where nothing is wrong, with copies of what it was judged by; else what is wrong
 abbrev pub IsVerdict : Statement → Interface → Verdict → Type 0

@@ -1,4 +1,5 @@
 pub mod FirstForm
+pub mod FirstInterface
 pub mod Judged
 pub mod Proven
 pub mod Verdict

@@ -1,5 +1,5 @@
 ghost use Rattle.std.specs.Prelude.{◌≡◌, ◌++◌, map, IfOk, OnOk};
-ghost use Rattle.asm_core.specs.Interface.{interface_of, register_operand, role_of, any_register};
+ghost use Rattle.blk_check.specs.FirstInterface.{first_interface_of, register_operand, role_of, any_register};
 
 use asm_core::{AltIface, Interface, Items, Memory, OperandIface, Part, Parts, RegSet, Role};
 use bitflags::Flags;
@@ -8,7 +8,7 @@ use std::alloc::Global;
 /// The interface of a statement whose operands are 4-byte values in registers and whose one clobber, if any, is `cc`.
 /// Of another statement it says nothing.
 pub fn interface(alloc: Global, parts: &Parts) -> Result<Interface, Memory>
-    ensures { IfOk result (λ made. made ≡ interface_of parts.now) }
+    ensures { IfOk result (λ made. made ≡ first_interface_of parts.now) }
 {
     let mut operands = Items::new(alloc);
     append_operands(alloc, &mut operands, parts.outputs.as_slice())?;

@@ -1,7 +1,7 @@
 -- What is said of the pages that code makes.
 use Rattle.std.specs.Prelude.{◌≡◌, List, [], ℕ, Some, Ok, All}
 use Rattle.std.specs.String.{string_bytes}
-use Rattle.asm_core.specs.Interface.{interface_of}
+use Rattle.blk_check.specs.FirstInterface.{first_interface_of}
 use Rattle.asm_core.specs.Frame.{KeepsFrame}
 use Rattle.asm_core.specs.declared.statement.Parts.{Parts}
 use Rattle.asm_core.specs.declared.statement.Body.{Body}
@@ -26,7 +26,7 @@ pub record IsPage (page : Page) (a : Answer) : Type 0 where
 
 -- the statement, where its lines are of the form that is judged so far, changes only what it declares
 abbrev pub KeepsFramesOf : Statement → Type 0
-KeepsFramesOf s = (parts : Parts) (lines : List Sym) → s.body ≡ Body.Parts parts → first_form_of parts ≡ Some lines → KeepsFrame (interface_of parts) lines
+KeepsFramesOf s = (parts : Parts) (lines : List Sym) → s.body ≡ Body.Parts parts → first_form_of parts ≡ Some lines → KeepsFrame (first_interface_of parts) lines
 
 -- so it does where it is judged and nothing is wrong with it
 abbrev pub OkKeepsFrames : File → Declared → Statement → Type 0

@@ -1,6 +1,6 @@
 -- What is said of the asm statements of a file, where that is settled so far.
 use Rattle.std.specs.Prelude.{ℕ, List, [], ◌∷◌, Bool, true, false, Option, None, Some, option_map, if◌then◌else◌}
-use Rattle.asm_core.specs.Interface.{interface_of}
+use Rattle.blk_check.specs.FirstInterface.{first_interface_of}
 use Rattle.asm_core.specs.declared.statement.Parts.{Parts}
 use Rattle.asm_core.specs.declared.statement.Body.{Body}
 use Rattle.asm_core.specs.declared.statement.Statement.{Statement}
@@ -15,7 +15,7 @@ use Rattle.ck_app.specs.declared.judgement.Judged.{Judged}
 
 -- what is wrong with a statement whose lines, constraints and clobbers are of the form that is judged so far
 abbrev pub findings_in : Parts → Option (List Finding)
-findings_in parts = option_map (verdict_of (interface_of parts)) (first_form_of parts)
+findings_in parts = option_map (verdict_of (first_interface_of parts)) (first_form_of parts)
 
 abbrev pub parts_judgement : File → Declared → Parts → Option Judgement
 parts_judgement f seen parts = if statement_fits f seen parts then option_map Judgement.Findings (findings_in parts) else None

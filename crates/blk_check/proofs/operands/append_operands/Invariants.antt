@@ -1,5 +1,5 @@
 use Rattle.std.proofs.Common.{◌≡◌, ◌++◌, take, map}
-use Rattle.asm_core.specs.Interface.{register_operand}
+use Rattle.blk_check.specs.FirstInterface.{register_operand}
 use Rattle.blk_check.proofs.operands.append_operands.Given as goal
 
 abbrev pub invariant-loop-part : goal.invariant-loop-part
