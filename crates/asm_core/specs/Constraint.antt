@@ -1,7 +1,7 @@
 -- What the text of a constraint says (GCC manual, "Simple Constraints", "Multiple Alternative Constraints", "Constraint
 -- Modifier Characters", "Machine Constraints" for x86, "Flag Output Operands"). What no letter here says has no meaning.
-use Rattle.std.specs.Prelude.{ℕ, zero, suc, ◌+◌, ◌-◌, ◌*◌, ◌==◌, ◌&&◌, ◌||◌, nat_eq, nat_lt, List, [], ◌∷◌, ◌++◌, map, length, take, drop, fold, position, take_while, Bool, true, false, Option, None, Some, option_map, slice_get, slice_index, codes, if◌then◌else◌}
-use Rattle.std.specs.List.{slice_split}
+use Rattle.std.specs.Prelude.{ℕ, zero, suc, ◌+◌, ◌-◌, ◌*◌, ◌==◌, ◌&&◌, ◌||◌, nat_eq, nat_lt, List, [], ◌∷◌, ◌++◌, map, length, take, drop, fold, position, Bool, true, false, Option, None, Some, option_map, slice_get, slice_index, codes, if◌then◌else◌}
+use Rattle.std.specs.List.{prefix_len, slice_split}
 use Rattle.std.specs.Char.{is_ascii_digit}
 use Rattle.std.specs.Cmp.Lexicographic.{pointwise}
 use Rattle.asm_core.specs.Lists.{optional_at}
@@ -75,7 +75,7 @@ byte_symbol b = if b == 38 then symbols.Early else if b == 61 || b == 43 then sy
 -- run of digits, or what stands up to the closing bracket.
 unfoldable pub symbol_at : List (Option (List ℕ)) → ℕ → List ℕ → Symbol × ℕ
 symbol_at outputs b bs =
-    if is_ascii_digit b then (symbols.Tie (output_numbered outputs (b ∷ take_while is_ascii_digit bs)), length (take_while is_ascii_digit bs))
+    if is_ascii_digit b then (symbols.Tie (output_numbered outputs (b ∷ take (prefix_len is_ascii_digit bs) bs)), prefix_len is_ascii_digit bs)
     else if b == 91 then bracketed outputs bs (position is_close_bracket bs)
     else (byte_symbol b, 0)
 
@@ -106,12 +106,13 @@ is_signed Role.In = false
 abbrev pub behind_sign : List ℕ → List ℕ
 behind_sign text = if is_signed (role_of text) then drop 1 text else text
 
--- the condition of `=@cc` and a spelling: `pe` and `po` are none of gcc's
+-- the condition of that spelling, which `pe` and `po` are not for gcc
+unfoldable pub flag_spelt : List ℕ → Option Cond
+flag_spelt spelling = if same spelling (codes "pe") || same spelling (codes "po") then None else cond_named spelling
+
+-- the whole constraint is `=@cc` and a spelling
 unfoldable pub flag_of : List ℕ → Option Cond
-flag_of text =
-    if same (take 4 text) (codes "=@cc")
-    then (if same (drop 4 text) (codes "pe") || same (drop 4 text) (codes "po") then None else cond_named (drop 4 text))
-    else None
+flag_of text = if same (take 4 text) (codes "=@cc") then flag_spelt (drop 4 text) else None
 
 -- a flag output's constraint holds in every alternative
 abbrev pub alternatives_unless_flag : Option Cond → List (List Symbol) → List (List Symbol)
