@@ -1,7 +1,7 @@
 -- The pieces of a template, as the assembler gets them in the first dialect (GCC manual, "Extended Asm"). What may stand
 -- beside an operand and around `%=` is this project's own rule: an operand is then a whole part of the line.
-use Rattle.std.specs.Prelude.{◌≡◌, ◌<◌, ℕ, Bool, true, false, List, [], ◌∷◌, ◌+◌, ◌-◌, ◌==◌, ◌||◌, ◌&&◌, not, IsTrue, if◌then◌else◌, Option, Some, None, Result, Ok, Err, length, map, max, drop, slice_index, All}
-use Rattle.std.specs.List.{list_any, prefix_len}
+use Rattle.std.specs.Prelude.{◌≡◌, ◌<◌, ℕ, Bool, true, false, List, [], ◌∷◌, ◌++◌, ◌+◌, ◌-◌, ◌==◌, ◌||◌, ◌&&◌, not, IsTrue, if◌then◌else◌, Option, Some, None, Result, Ok, Err, length, map, max, take, drop, slice_index, option_map, filter_map, All}
+use Rattle.std.specs.List.{list_any, suffix_len}
 use Rattle.asm_core.specs.declared.mark.Mark.{Mark}
 use Rattle.asm_core.specs.declared.mark.MarkKind.TheVariants.{Template}
 use Rattle.asm_core.specs.declared.piece.Modifier.{Modifier}
@@ -34,15 +34,17 @@ is_bare C = true
 is_bare m = false
 
 -- What an operand may stand directly behind: the beginning, blank, tab, newline, `;`, `:`, `,`, `(`, and with `%c` also `$`.
--- The codes are those before it, the nearest first.
+-- The codes are all those before it.
 abbrev pub may_precede : Modifier → List ℕ → Bool
-may_precede m [] = true
-may_precede m (c ∷ cs) = is_one_of (32 ∷ 9 ∷ 10 ∷ 59 ∷ 58 ∷ 44 ∷ 40 ∷ []) c || (is_bare m && (c == 36))
+may_precede m before =
+    let c = slice_index before (length before - 1) in
+    (length before == 0) || is_one_of (32 ∷ 9 ∷ 10 ∷ 59 ∷ 58 ∷ 44 ∷ 40 ∷ []) c || (is_bare m && (c == 36))
 
 -- What may stand directly behind an operand: the end, blank, tab, newline, `;`, `,`, `)`, `#`, and with `%c` also `(`.
 abbrev pub may_follow : Modifier → List ℕ → Bool
-may_follow m [] = true
-may_follow m (c ∷ cs) = is_one_of (32 ∷ 9 ∷ 10 ∷ 59 ∷ 44 ∷ 41 ∷ 35 ∷ []) c || (is_bare m && (c == 40))
+may_follow m after =
+    let c = slice_index after 0 in
+    (length after == 0) || is_one_of (32 ∷ 9 ∷ 10 ∷ 59 ∷ 44 ∷ 41 ∷ 35 ∷ []) c || (is_bare m && (c == 40))
 
 -- letter, digit or `_`
 abbrev pub is_word : ℕ → Bool
@@ -50,22 +52,22 @@ is_word c = is_letter c || is_digit c || (c == 95)
 
 -- what a name may stand behind: the beginning, blank, tab, newline, `;`, `:`
 abbrev pub may_begin_name : List ℕ → Bool
-may_begin_name [] = true
-may_begin_name (c ∷ cs) = is_one_of (32 ∷ 9 ∷ 10 ∷ 59 ∷ 58 ∷ []) c
+may_begin_name before =
+    (length before == 0) || is_one_of (32 ∷ 9 ∷ 10 ∷ 59 ∷ 58 ∷ []) (slice_index before (length before - 1))
 
--- The bytes before `%=`, the nearest first, are `.L` and any letters, digits and `_`, the last no digit, where a name may
--- begin.
+-- What stands before `%=` ends in `.L` and any letters, digits and `_`, the last no digit, and a name may begin there.
 abbrev pub ends_label : List ℕ → Bool
 ends_label before =
-    let word = prefix_len is_word before in
-    not (is_digit (slice_index before 0)) && (slice_index before (word - 1) == 76) && (slice_index before word == 46) && may_begin_name (drop (word + 1) before)
+    let word = length before - suffix_len is_word before in
+    (slice_index before word == 76) && not (is_digit (slice_index before (length before - 1))) && (slice_index before (word - 1) == 46) && may_begin_name (take (word - 1) before)
 
 -- No part of a name is there: a letter, a digit, `_`, `.`, `$`, an operand, `%=`.
 abbrev pub ends_name : List ℕ → Bool
-ends_name [] = true
-ends_name (c ∷ cs) = not (is_word c || is_one_of (46 ∷ 36 ∷ 0 ∷ 1 ∷ []) c)
+ends_name after =
+    let c = slice_index after 0 in
+    (length after == 0) || not (is_word c || is_one_of (46 ∷ 36 ∷ 0 ∷ 1 ∷ []) c)
 
--- Whether a form may stand where it does: in a comment or not, with the codes before it (the nearest first) and behind it.
+-- Whether a form may stand where it does: in a comment or not, with the codes before it and behind it.
 abbrev pub may_stand : Bool → List ℕ → TemplateForm → List ℕ → Bool
 may_stand inside before (forms.Byte b at) after = true
 may_stand inside before (forms.Hole k m at) after = inside || (may_precede m before && may_follow m after)
@@ -78,23 +80,24 @@ place_of (forms.Hole k m at) = at
 place_of (forms.Unique at) = at
 place_of (forms.Outside at) = at
 
--- The place of the leftmost form that may not stand where it does; the codes are those before the forms, the nearest first,
--- and the marks say which forms stand in comments.
+-- The place of the leftmost form that may not stand where it does; the codes are those before the forms, and
+-- the marks say which forms stand in comments.
 unfoldable pub first_outside : List ℕ → List TemplateForm → List Bool → Option ℕ
 first_outside before [] marks = None
 first_outside before (f ∷ fs) [] = None
 first_outside before (f ∷ fs) (inside ∷ marks) =
-    if may_stand inside before f (map form_code fs) then first_outside (form_code f ∷ before) fs marks
+    if may_stand inside before f (map form_code fs) then first_outside (before ++ form_code f ∷ []) fs marks
     else Some (place_of f)
 
--- An operand that isn't there gives no piece.
-unfoldable pub pieces_in : List TemplateForm → List Piece
-pieces_in [] = []
-pieces_in (forms.Byte b at ∷ fs) = pieces.Byte b at ∷ pieces_in fs
-pieces_in (forms.Hole None m at ∷ fs) = pieces_in fs
-pieces_in (forms.Hole (Some k) m at ∷ fs) = pieces.Hole k m at ∷ pieces_in fs
-pieces_in (forms.Unique at ∷ fs) = pieces.Unique at ∷ pieces_in fs
-pieces_in (forms.Outside at ∷ fs) = pieces_in fs
+-- The piece that a form gives; an operand that isn't there gives none.
+abbrev pub piece_of : TemplateForm → Option Piece
+piece_of (forms.Byte b at) = Some (pieces.Byte b at)
+piece_of (forms.Hole operand m at) = option_map (λ k. pieces.Hole k m at) operand
+piece_of (forms.Unique at) = Some (pieces.Unique at)
+piece_of (forms.Outside at) = None
+
+abbrev pub pieces_in : List TemplateForm → List Piece
+pieces_in fs = filter_map piece_of fs
 
 -- a hole that names an operand that isn't there
 abbrev pub is_missing : TemplateForm → Bool
@@ -124,7 +127,7 @@ pieces_read (Scanned list missing) = if missing then Err ends.NoOperand else Ok 
 abbrev pub pieces_of : Quoted → List (Option (List ℕ)) → Result (List Piece) PiecesEnd
 pieces_of q names = pieces_read (scan_of q names)
 
--- What stands beside a piece outside comments, by the codes before it (the nearest first) and behind it.
+-- What stands beside a piece outside comments, by the codes before it and behind it.
 abbrev pub StandsApart : List ℕ → Piece → List ℕ → Type 0
 StandsApart before (pieces.Byte b at) after = Unit {0}
 StandsApart before (pieces.Hole k m at) after = IsTrue (may_precede m before) × IsTrue (may_follow m after)
@@ -133,7 +136,7 @@ StandsApart before (pieces.Unique at) after = IsTrue (ends_label before) × IsTr
 -- Every operand and every `%=` stands apart from what is beside it.
 unfoldable pub StandApart : List ℕ → List Piece → Type 0
 StandApart before [] = Unit {0}
-StandApart before (p ∷ ps) = StandsApart before p (map piece_code ps) × StandApart (piece_code p ∷ before) ps
+StandApart before (p ∷ ps) = StandsApart before p (map piece_code ps) × StandApart (before ++ piece_code p ∷ []) ps
 
 -- a hole names one of so many operands
 abbrev pub NamesOneOf : ℕ → Piece → Type 0
