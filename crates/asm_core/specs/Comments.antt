@@ -1,6 +1,6 @@
 -- Comments in a template. `#` begins one that goes on to the newline. `/*` begins one where a statement, an operand or a
 -- word may begin, if it is closed (GNU as, "Comments"; where `/*` may begin one is this project's own rule).
-use Rattle.std.specs.Prelude.{ℕ, Bool, true, false, List, [], ◌∷◌, ◌+◌, ◌-◌, ◌==◌, ◌||◌, ◌&&◌, nat_lt, if◌then◌else◌, Option, Some, None, length, map, drop, slice_index}
+use Rattle.std.specs.Prelude.{ℕ, Bool, true, false, List, [], ◌∷◌, ◌+◌, ◌-◌, ◌==◌, ◌||◌, ◌&&◌, nat_lt, if◌then◌else◌, Option, Some, None, unwrap_or, length, map, drop, slice_index}
 use Rattle.std.specs.List.{list_any}
 
 -- the number is in the list
@@ -20,6 +20,10 @@ unfoldable pub line_end : ℕ → List ℕ → ℕ
 line_end i [] = i
 line_end i (c ∷ cs) = if c == 10 then i else line_end (i + 1) cs
 
+-- `*/` stands there
+abbrev pub closes_block : List ℕ → ℕ → Bool
+closes_block codes i = (slice_index codes i == 42) && (slice_index codes (i + 1) == 47)
+
 -- the index behind the next `*/`
 unfoldable pub block_end : ℕ → List ℕ → Option ℕ
 block_end i [] = None
@@ -32,15 +36,14 @@ comment_end codes i =
     else if opens_block codes i then block_end (i + 2) (drop (i + 2) codes)
     else None
 
--- Whether each byte from the index i on stands in a comment; those before `until` do.
+-- the index behind the comment in which a byte stands, where it stands in one; the one before it ended at `until`
+unfoldable pub comment_until : List ℕ → ℕ → ℕ → ℕ
+comment_until codes until i = if nat_lt i until then until else unwrap_or (comment_end codes i) until
+
+-- Whether each byte from the index i on stands in a comment; the one before them goes on up to `until`.
 unfoldable pub comments_from : List ℕ → ℕ → ℕ → List ℕ → List Bool
 comments_from codes until i [] = []
-comments_from codes until i (c ∷ cs) =
-    if nat_lt i until then true ∷ comments_from codes until (i + 1) cs
-    else elim (comment_end codes i) [
-      | None ↦ false ∷ comments_from codes until (i + 1) cs
-      | Some e ↦ true ∷ comments_from codes e (i + 1) cs
-    ]
+comments_from codes until i (c ∷ cs) = let end = comment_until codes until i in nat_lt i end ∷ comments_from codes end (i + 1) cs
 
 -- whether each byte stands in a comment
 abbrev pub comments_of : List ℕ → List Bool

@@ -9,7 +9,7 @@ use Rattle.asm_core.specs.declared.piece.Piece.{Piece}
 use Rattle.asm_core.specs.declared.piece.Piece.TheVariants.{Byte, Hole, Unique}
 use Rattle.asm_core.specs.declared.piece.PiecesEnd.TheVariants as ends
 use Rattle.asm_core.specs.Lists.{count_from}
-use Rattle.asm_core.specs.Comments.{line_end, block_end, comment_end, comments_from, kept, uncommented}
+use Rattle.asm_core.specs.Comments.{line_end, block_end, comment_end, comment_until, comments_from, kept, uncommented}
 use Rattle.asm_core.specs.TemplateForms.{written_at, percent_at, group_end, cut_at, forms_from}
 use Rattle.asm_core.specs.Pieces.{Scan, Outside, Scanned, first_outside, scan_of, pieces_of}
 
@@ -25,5 +25,5 @@ abbrev pub reads : List ℕ → Scan
 reads bytes = scan_of (text bytes) names
 
 test1 : reads (codes "mov %0") ≡ Scanned (Byte 109 0 ∷ Byte 111 1 ∷ Byte 118 2 ∷ Byte 32 3 ∷ Hole 0 Plain 4 ∷ []) false
-unfolding line_end block_end comment_end comments_from written_at percent_at group_end cut_at forms_from first_outside
+unfolding line_end block_end comment_end comment_until comments_from written_at percent_at group_end cut_at forms_from first_outside
 test1 = refl
