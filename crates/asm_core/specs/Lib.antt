@@ -1,3 +1,4 @@
+pub mod Comments
 pub mod Cond
 pub mod Entry
 pub mod Finding
@@ -6,10 +7,12 @@ pub mod Frame
 pub mod Interface
 pub mod Lists
 pub mod Machine
+pub mod Pieces
 pub mod Placement
 pub mod Reading
 pub mod Reg
 pub mod Rows
 pub mod Run
 pub mod Shape
+pub mod TemplateForms
 pub mod WellFormed

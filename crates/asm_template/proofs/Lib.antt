@@ -1,0 +1,5 @@
+pub mod BraceLemmas
+pub mod CommentLemmas
+pub mod CutLemmas
+pub mod LabelLemmas
+pub mod OperandLemmas
