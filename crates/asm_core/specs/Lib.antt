@@ -1,5 +1,7 @@
+pub mod Clobber
 pub mod Comments
 pub mod Cond
+pub mod Constraint
 pub mod Entry
 pub mod Finding
 pub mod Flag
@@ -7,6 +9,7 @@ pub mod Frame
 pub mod Interface
 pub mod Lists
 pub mod Machine
+pub mod Malformed
 pub mod Pieces
 pub mod Placement
 pub mod Reading
@@ -14,5 +17,6 @@ pub mod Reg
 pub mod Rows
 pub mod Run
 pub mod Shape
+pub mod Size
 pub mod TemplateForms
 pub mod WellFormed

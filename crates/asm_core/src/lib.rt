@@ -2,6 +2,7 @@
 #![tactic(auto)]
 
 mod cond;
+mod constraint;
 mod duplicate;
 mod edit;
 mod finding;
@@ -22,6 +23,7 @@ mod sym;
 mod template_form;
 
 pub use cond::Cond;
+pub use constraint::{ConstrainedOperand, Letter, Symbol};
 pub use duplicate::{Duplicate, duplicate_items};
 pub use edit::Edit;
 pub use finding::{Cell, END_LINE, Finding, Rule};
