@@ -2,6 +2,9 @@
 #![tactic(auto)]
 
 mod clobber;
+mod malformed;
 mod operand;
+mod outside;
 mod size;
+mod symbol_kind;
 mod symbol;

@@ -1,7 +1,7 @@
 -- What the text of a constraint says (GCC manual, "Simple Constraints", "Multiple Alternative Constraints", "Constraint
 -- Modifier Characters", "Machine Constraints" for x86, "Flag Output Operands"). What no letter here says has no meaning.
 use Rattle.std.specs.Prelude.{ℕ, zero, suc, ◌+◌, ◌-◌, ◌*◌, ◌==◌, ◌&&◌, ◌||◌, nat_eq, nat_lt, List, [], ◌∷◌, ◌++◌, map, length, take, drop, fold, position, Bool, true, false, Option, None, Some, option_map, slice_get, slice_index, codes, if◌then◌else◌}
-use Rattle.std.specs.List.{prefix_len, slice_split}
+use Rattle.std.specs.List.{flat_map, prefix_len, slice_split}
 use Rattle.std.specs.Char.{is_ascii_digit}
 use Rattle.std.specs.Cmp.Lexicographic.{pointwise}
 use Rattle.asm_core.specs.Lists.{optional_at}
@@ -164,3 +164,7 @@ names_of parts = map name_of parts
 
 unfoldable pub constrained_operands : Parts → List (Option Operand) → List ConstrainedOperand
 constrained_operands parts types = constrained_from (names_of parts.outputs) types 0 (parts.outputs ++ parts.inputs)
+
+-- the symbols of all alternatives
+abbrev pub all_symbols : ConstrainedOperand → List Symbol
+all_symbols w = flat_map (λ (alternative : List Symbol). alternative) w.alternatives

@@ -4,7 +4,7 @@ use Rattle.std.specs.Prelude.{ℕ, ◌+◌, ◌==◌, ◌&&◌, ◌||◌, nat_lt
 use Rattle.std.specs.List.{list_any, list_all}
 use Rattle.asm_core.specs.Reg.{reg_number}
 use Rattle.asm_core.specs.Lists.{optional_at}
-use Rattle.asm_core.specs.Constraint.{has_name, is_signed}
+use Rattle.asm_core.specs.Constraint.{has_name, is_signed, all_symbols}
 use Rattle.asm_core.specs.Clobber.{is_clobbered}
 use Rattle.asm_core.specs.declared.reg.Reg.{Reg}
 use Rattle.asm_core.specs.declared.finding.Rule.{Rule}
@@ -42,11 +42,11 @@ is_other _ = false
 -- ---- constraints outside the tables
 
 abbrev pub has_other : ConstrainedOperand → Bool
-has_other w = list_any (list_any is_other) w.alternatives
+has_other w = list_any is_other (all_symbols w)
 
 -- a sign stands behind that of the beginning
 abbrev pub has_second_sign : ConstrainedOperand → Bool
-has_second_sign w = is_signed w.role && list_any (list_any is_sign) w.alternatives
+has_second_sign w = is_signed w.role && list_any is_sign (all_symbols w)
 
 -- two ties, equal ones too
 abbrev pub has_two_ties : List Symbol → Bool
@@ -74,7 +74,7 @@ is_bad_tie ws symbols.Sign = false
 is_bad_tie ws symbols.Other = false
 
 abbrev pub has_bad_tie : List ConstrainedOperand → ConstrainedOperand → Bool
-has_bad_tie ws w = list_any (list_any (is_bad_tie ws)) w.alternatives
+has_bad_tie ws w = list_any (is_bad_tie ws) (all_symbols w)
 
 unfoldable pub is_constraint_outside : List ConstrainedOperand → ConstrainedOperand → Bool
 is_constraint_outside ws w =
@@ -91,7 +91,7 @@ is_output_mark s = is_sign s || is_early s
 
 -- an input has `=`, `+` or `&`
 abbrev pub is_marked_input : ConstrainedOperand → Bool
-is_marked_input w = not w.output && list_any (list_any is_output_mark) w.alternatives
+is_marked_input w = not w.output && list_any is_output_mark (all_symbols w)
 
 abbrev pub has_own_alternatives : ConstrainedOperand → Bool
 has_own_alternatives w = is_none w.flag
@@ -126,7 +126,7 @@ is_stray_tie output symbols.Other = false
 
 -- a tie names no output, or stands in an output
 abbrev pub has_stray_tie : ConstrainedOperand → Bool
-has_stray_tie w = list_any (list_any (is_stray_tie w.output)) w.alternatives
+has_stray_tie w = list_any (is_stray_tie w.output) (all_symbols w)
 
 abbrev pub is_named_before : List (Option (List ℕ)) → Option (List ℕ) → Bool
 is_named_before before None = false
@@ -140,12 +140,16 @@ abbrev pub is_letter_of : Reg → Symbol → Bool
 is_letter_of r (symbols.Letter (One q)) = reg_number r == reg_number q
 is_letter_of r _ = false
 
+abbrev pub is_early_or_letter_of : Reg → Symbol → Bool
+is_early_or_letter_of r s = is_early s || is_letter_of r s
+
 -- the letter of that register, perhaps more than once, and nothing else but `&`
 unfoldable pub is_only_letter : Reg → List Symbol → Bool
-is_only_letter r alternative = list_any (is_letter_of r) alternative && list_all (λ s. is_early s || is_letter_of r s) alternative
+is_only_letter r alternative = list_any (is_letter_of r) alternative && list_all (is_early_or_letter_of r) alternative
 
-abbrev pub is_fixed_in : ConstrainedOperand → Reg → Bool
-is_fixed_in w r = has_own_alternatives w && list_all (is_only_letter r) w.alternatives
+-- the register is clobbered, and its letter stands alone in every alternative of the operand
+abbrev pub is_clobbered_place : List Quoted → ConstrainedOperand → Reg → Bool
+is_clobbered_place clobbers w r = is_clobbered clobbers r && (has_own_alternatives w && list_all (is_only_letter r) w.alternatives)
 
 -- The registers that have a letter of their own.
 abbrev pub lettered_registers : List Reg
@@ -153,7 +157,7 @@ lettered_registers = Reg.Eax ∷ Reg.Ebx ∷ Reg.Ecx ∷ Reg.Edx ∷ Reg.Esi ∷
 
 -- one register's letter alone in every alternative, and that register is clobbered
 unfoldable pub is_clobbered_operand : List Quoted → ConstrainedOperand → Bool
-is_clobbered_operand clobbers w = list_any (λ r. is_clobbered clobbers r && is_fixed_in w r) lettered_registers
+is_clobbered_operand clobbers w = list_any (is_clobbered_place clobbers w) lettered_registers
 
 abbrev pub is_hole_of : ℕ → Piece → Bool
 is_hole_of number (Piece.Byte b place) = false

@@ -3,6 +3,7 @@
 use Rattle.std.specs.Prelude.{ℕ, ◌+◌, ◌==◌, ◌&&◌, ◌||◌, nat_lt, List, [], ◌∷◌, map, length, Bool, true, false, not, is_some, is_none, Option, None, Some, option_map, slice_get, if◌then◌else◌}
 use Rattle.std.specs.List.{list_any, enumerate_from}
 use Rattle.asm_core.specs.Lists.{optional_at}
+use Rattle.asm_core.specs.Constraint.{all_symbols}
 use Rattle.asm_core.specs.declared.shape.Kind.{Kind}
 use Rattle.asm_core.specs.declared.interface.Role.{Role}
 use Rattle.asm_core.specs.declared.constraint.Letter.{Letter}
@@ -103,7 +104,7 @@ is_word_size size = size == 1 || (size == 2 || size == 4)
 
 -- `A` is among the letters, and the size isn't 8
 unfoldable pub is_broken_pair : ConstrainedOperand → ℕ → Bool
-is_broken_pair w size = not (size == 8) && list_any (list_any is_pair_letter) w.alternatives
+is_broken_pair w size = not (size == 8) && list_any is_pair_letter (all_symbols w)
 
 -- a letter other than `A` that allows a register or a number
 abbrev pub is_word_letter : Symbol → Bool
@@ -111,7 +112,7 @@ is_word_letter s = not (is_pair_letter s) && (is_letter_for Kind.Register s || i
 
 -- such a letter is there, or the operand is a flag output, and the size isn't 1, 2 or 4
 unfoldable pub is_broken_word : ConstrainedOperand → ℕ → Bool
-is_broken_word w size = not (is_word_size size) && (is_some w.flag || list_any (list_any is_word_letter) w.alternatives)
+is_broken_word w size = not (is_word_size size) && (is_some w.flag || list_any is_word_letter (all_symbols w))
 
 abbrev pub is_same_size : Option ℕ → Option ℕ → Bool
 is_same_size None None = true
@@ -142,10 +143,12 @@ is_output_alone Role.In = false
 unfoldable pub has_tied_input : List ConstrainedOperand → ℕ → ℕ → Bool
 has_tied_input ws number a = list_any (is_tied_input number a) ws
 
--- some alternative lets it be in memory and ties no input to it
+-- an alternative lets the operand be in memory and ties no input to it
+abbrev pub lets_write_alone : List ConstrainedOperand → ℕ → ℕ → List Symbol → Bool
+lets_write_alone ws number a alternative = alternative_allows ws Kind.Memory a alternative && not (has_tied_input ws number a)
+
 unfoldable pub may_be_written_alone : List ConstrainedOperand → ConstrainedOperand → Bool
-may_be_written_alone ws w =
-    list_any (λ (x : ℕ × List Symbol). alternative_allows ws Kind.Memory x.0 x.1 && not (has_tied_input ws w.number x.0)) (enumerate_from 0 w.alternatives)
+may_be_written_alone ws w = list_any (λ (x : ℕ × List Symbol). lets_write_alone ws w.number x.0 x.1) (enumerate_from 0 w.alternatives)
 
 -- an output alone, of more than 64 bytes, may be in memory
 unfoldable pub is_wide_output : List ConstrainedOperand → ConstrainedOperand → ℕ → Bool
@@ -153,7 +156,7 @@ is_wide_output ws w size = nat_lt 64 size && (is_output_alone w.role && may_be_w
 
 -- the operand is an output of another size that a tie of the operand w names
 abbrev pub is_mismatched_output : List (Option ℕ) → ℕ → ConstrainedOperand → ConstrainedOperand → Bool
-is_mismatched_output sizes size w output = not (is_same_size (optional_at sizes output.number) (Some size)) && list_any (list_any (ties_to output.number)) w.alternatives
+is_mismatched_output sizes size w output = not (is_same_size (optional_at sizes output.number) (Some size)) && list_any (ties_to output.number) (all_symbols w)
 
 -- an input is tied to an output of another size
 unfoldable pub is_mismatched : List ConstrainedOperand → List (Option ℕ) → ConstrainedOperand → ℕ → Bool
