@@ -2,9 +2,11 @@
 #![tactic(auto)]
 
 mod clobber;
+mod made;
 mod malformed;
 mod operand;
 mod outside;
+mod range;
 mod size;
 mod symbol_kind;
 mod symbol;

@@ -2,7 +2,7 @@
 
 ghost use Rattle.std.specs.Prelude.{◌≡◌, ◌&&◌, ◌<◌, ◌≤◌, ◌++◌, take, length, find, filter, map, IfOk, OnOk};
 ghost use Rattle.std.specs.List.{list_any, list_all};
-ghost use Rattle.asm_core.specs.Lists.{optional_at};
+ghost use Rattle.std.specs.Option.{option_copied};
 ghost use Rattle.asm_core.specs.Constraint.{all_symbols, has_name};
 ghost use Rattle.asm_core.specs.Clobber.{is_clobbered};
 ghost use Rattle.asm_core.specs.Malformed.{is_output_mark, is_unsigned_output, is_marked_input, has_own_alternatives, count_of, alternative_count, differs_in_count, is_numbered, is_odd_one, is_stray_tie, has_stray_tie, is_named_before, repeats_name, is_letter_of, is_early_or_letter_of, is_only_letter, is_clobbered_place, lettered_registers, is_clobbered_operand, is_hole_of, is_named_flag, is_malformed, malformed_at, malformed_operand, missing_findings, malformed_findings};
@@ -44,12 +44,19 @@ fn has_own_alternatives(operand: &ConstrainedOperand) -> bool
     operand.flag.is_none()
 }
 
+/// The first operand that is no flag output.
+fn first_own(operands: &[ConstrainedOperand]) -> Option<&ConstrainedOperand>
+    ensures { option_copied result ≡ find has_own_alternatives operands.now }
+{
+    operands.iter().find(|operand| has_own_alternatives(operand))
+}
+
 /// How many alternatives the statement has: those of the first operand that is no flag output, or one.
 #[tactic(auto, unfolding(asm_core::specs::Malformed::alternative_count))]
 pub fn alternative_count(operands: &[ConstrainedOperand]) -> usize
     ensures { result ≡ alternative_count operands.now }
 {
-    match operands.iter().find(|operand| has_own_alternatives(operand)) {
+    match first_own(operands) {
         Some(operand) => operand.alternatives.len(),
         None => 1,
     }
@@ -73,13 +80,19 @@ fn has_stray_tie(operand: &ConstrainedOperand) -> bool
         .any(|symbol| is_stray_tie(output, *symbol))
 }
 
+/// The first operand that is no flag output and has another count of alternatives.
+fn first_odd(operands: &[ConstrainedOperand], count: usize) -> Option<&ConstrainedOperand>
+    ensures { option_copied result ≡ find (differs_in_count count) operands.now }
+{
+    operands.iter().find(|operand| differs_in_count(count, operand))
+}
+
 /// Whether the operand has another count of alternatives than those before it, as the first one.
 #[tactic(auto, unfolding(asm_core::specs::Malformed::is_odd_one))]
 fn is_odd_one(operands: &[ConstrainedOperand], operand: &ConstrainedOperand) -> bool
     ensures { result ≡ is_odd_one operands.now operand.now }
 {
-    let count = alternative_count(operands);
-    match operands.iter().find(|operand| differs_in_count(count, operand)) {
+    match first_odd(operands, alternative_count(operands)) {
         Some(odd) => odd.number == operand.number,
         None => false,
     }

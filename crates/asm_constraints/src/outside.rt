@@ -86,7 +86,7 @@ fn some_mixes_tie(alternatives: &[Items<Symbol>]) -> bool
 
 /// Whether no input can be tied to the operand.
 fn takes_no_tie(operand: Option<&ConstrainedOperand>) -> bool
-    ensures { result ≡ takes_no_tie (option_copied operand) }
+    ensures { result ≡ takes_no_tie (option_copied operand.entry) }
 {
     match operand {
         Some(operand) => matches!(operand.role, Role::InOut) || operand.flag.is_some(),
