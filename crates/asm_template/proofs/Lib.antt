@@ -3,3 +3,4 @@ pub mod CommentLemmas
 pub mod CutLemmas
 pub mod LabelLemmas
 pub mod OperandLemmas
+pub mod OutsideLemmas

@@ -5,6 +5,7 @@ mod braces;
 mod bytes;
 mod comments;
 mod cut;
+mod form;
 mod neighbours;
 mod operand;
 mod scan_end;
