@@ -4,3 +4,5 @@ pub mod CutLemmas
 pub mod LabelLemmas
 pub mod OperandLemmas
 pub mod OutsideLemmas
+pub mod NumberedLemmas
+pub mod ApartLemmas
