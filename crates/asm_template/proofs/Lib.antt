@@ -6,3 +6,4 @@ pub mod OperandLemmas
 pub mod OutsideLemmas
 pub mod NumberedLemmas
 pub mod ApartLemmas
+pub mod UncommentedLemmas
