@@ -7,3 +7,4 @@ pub mod OutsideLemmas
 pub mod NumberedLemmas
 pub mod ApartLemmas
 pub mod UncommentedLemmas
+pub mod PieceLaws
