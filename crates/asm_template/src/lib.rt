@@ -13,3 +13,6 @@ mod template;
 
 pub use scan_end::ScanEnd;
 pub use template::{Scanned, pieces, scan};
+
+#[cfg(test)]
+mod tests;
