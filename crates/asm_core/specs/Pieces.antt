@@ -131,7 +131,7 @@ pieces_of q names = pieces_read (scan_of q names)
 abbrev pub StandsApart : List ℕ → Piece → List ℕ → Type 0
 StandsApart before (pieces.Byte b at) after = Unit {0}
 StandsApart before (pieces.Hole k m at) after = IsTrue (may_precede m before) × IsTrue (may_follow m after)
-StandsApart before (pieces.Unique at) after = IsTrue (ends_label before) × IsTrue (ends_name after)
+StandsApart before (pieces.Unique at) after = IsTrue (ends_name after)
 
 -- Every operand and every `%=` stands apart from what is beside it.
 unfoldable pub StandApart : List ℕ → List Piece → Type 0

@@ -1,5 +1,5 @@
 -- One step of what looks for the end of a comment, and of the marks.
-use Rattle.std.proofs.Common.{◌≡◌, ℕ, ◌+◌, ◌-◌, ◌<◌, ◌≤◌, Bool, true, false, List, drop, length, get_or, Some, None, cond, refl, arith, nat_lt, [], ◌∷◌, append_assoc, inl, inr, ◌∙◌, ◌==◌, ◌&&◌, add-zero, get_or-drop}
+use Rattle.std.proofs.Common.{◌≡◌, ℕ, suc, ap, ◌+◌, ◌-◌, ◌<◌, ◌≤◌, Bool, true, false, List, drop, length, get_or, Some, None, cond, refl, arith, nat_lt, [], ◌∷◌, append_assoc, inl, inr, ◌∙◌, ◌==◌, ◌&&◌, add-zero, get_or-drop}
 use Rattle.std.proofs.lemmas.List.{drop_more, drop_all, append-nil, get_or_past}
 use Rattle.std.proofs.Math.Bool.{and-false}
 use Rattle.std.proofs.lemmas.Bool.{cases_lt}
@@ -74,6 +74,11 @@ comments-step codes until i lt = rw (drop_more codes i 0 lt) refl
 pub comments-done : (codes : List ℕ) (until i : ℕ) → length codes ≤ i → comments_from codes until i (drop i codes) ≡ []
 unfolding comments_from
 comments-done codes until i le = rw (drop_all i codes le) refl
+
+pub comments-length : (codes : List ℕ) (until i : ℕ) (cs : List ℕ) → length (comments_from codes until i cs) ≡ length cs
+unfolding comments_from
+comments-length codes until i [] = refl
+comments-length codes until i (c ∷ cs) = ap suc (comments-length codes (comment_until codes until i) (i + 1) cs)
 
 pub ruleset block_steps = (block_end-step, block_end-done)
 

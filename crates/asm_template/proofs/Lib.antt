@@ -3,3 +3,8 @@ pub mod CommentLemmas
 pub mod CutLemmas
 pub mod LabelLemmas
 pub mod OperandLemmas
+pub mod OutsideLemmas
+pub mod NumberedLemmas
+pub mod ApartLemmas
+pub mod UncommentedLemmas
+pub mod PieceLaws

@@ -5,6 +5,7 @@ mod braces;
 mod bytes;
 mod comments;
 mod cut;
+mod form;
 mod neighbours;
 mod operand;
 mod scan_end;
@@ -12,3 +13,6 @@ mod template;
 
 pub use scan_end::ScanEnd;
 pub use template::{Scanned, pieces, scan};
+
+#[cfg(test)]
+mod tests;
