@@ -2,6 +2,7 @@
 #![tactic(auto)]
 
 mod clobber;
+mod interface;
 mod made;
 mod malformed;
 mod operand;

@@ -10,6 +10,7 @@ pub mod Interface
 pub mod Lists
 pub mod Machine
 pub mod Malformed
+pub mod Parts
 pub mod Pieces
 pub mod Placement
 pub mod Reading
