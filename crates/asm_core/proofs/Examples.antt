@@ -4,6 +4,7 @@ mod Changing
 mod Entries
 mod Machines
 mod Numbers
+mod Pieces
 mod Placements
 mod Runs
 mod Shapes

@@ -1,4 +1,7 @@
+pub mod Clobber
+pub mod Comments
 pub mod Cond
+pub mod Constraint
 pub mod Entry
 pub mod Finding
 pub mod Flag
@@ -6,11 +9,15 @@ pub mod Frame
 pub mod Interface
 pub mod Lists
 pub mod Machine
+pub mod Malformed
+pub mod Parts
+pub mod Pieces
 pub mod Placement
 pub mod Reading
 pub mod Reg
 pub mod Rows
 pub mod Run
 pub mod Shape
-pub mod Statement
+pub mod Size
+pub mod TemplateForms
 pub mod WellFormed

@@ -2,6 +2,7 @@
 #![tactic(auto)]
 
 mod cond;
+mod constraint;
 mod duplicate;
 mod edit;
 mod finding;
@@ -19,8 +20,10 @@ mod shape;
 mod span;
 mod statement;
 mod sym;
+mod template_form;
 
 pub use cond::Cond;
+pub use constraint::{ConstrainedOperand, Letter, Symbol};
 pub use duplicate::{Duplicate, duplicate_items};
 pub use edit::Edit;
 pub use finding::{Cell, END_LINE, Finding, Rule};
@@ -39,3 +42,4 @@ pub use span::Span;
 pub use sqlite_items::{Boxed, Items};
 pub use statement::{Body, Part, Parts, Quoted, Statement};
 pub use sym::{Arg, Args, Disp, Place, Sym};
+pub use template_form::{TemplateCut, TemplateForm, WrittenOperand};

@@ -1,6 +1,7 @@
 -- What stands between the parentheses of an asm statement (GCC manual, "Extended Asm").
-use Rattle.std.specs.Prelude.{ℕ, Bool, true, false, List, [], ◌+◌, ◌-◌, ◌==◌, ◌&&◌, nat_lt, nat_le, if◌then◌else◌, Option, Some, None, Result, Ok, Err, length, drop, slice_index, slice_range, count_by}
+use Rattle.std.specs.Prelude.{ℕ, Bool, true, false, List, [], ◌+◌, ◌-◌, ◌==◌, ◌&&◌, nat_lt, nat_le, if◌then◌else◌, Option, Some, None, Result, Ok, Err, length, drop, slice_range}
 use Rattle.c_tokens.specs.declared.token.Token.{Token}
+use Rattle.asm_core.specs.Parts.{operand_count}
 use Rattle.asm_core.specs.declared.span.Span.{Span}
 use Rattle.asm_core.specs.declared.statement.Part.{Part}
 use Rattle.asm_core.specs.declared.statement.Parts.{Parts}
@@ -34,14 +35,6 @@ template_read span (Err o) = record { quoted = quoted [] span; bad = Some o }
 
 unfoldable pub template_at : List ℕ → List Token → ℕ → ℕ → Template
 template_at text ts first end = template_read (span_of ts first (end - 1)) (template_of text (slice_range ts first end))
-
--- the constraint begins with `+`
-abbrev pub is_in_out : Part → Bool
-is_in_out p = slice_index p.constraint.bytes 0 == 43
-
--- the operands, an output that is read too counted twice
-abbrev pub operand_count : List Part → List Part → ℕ
-operand_count outputs inputs = length outputs + count_by is_in_out outputs + length inputs
 
 abbrev pub one_if : Bool → ℕ
 one_if true = 1

@@ -1,7 +1,8 @@
 //! What stands between the parentheses of an asm statement.
 
 ghost use Rattle.std.specs.Prelude.{◌≡◌, ◌+◌, ◌<◌, ◌≤◌, length, count_by, nat_le, IfOk};
-ghost use Rattle.asm_statement.specs.Parts.{template_at, is_in_out, operand_count, parts_at};
+ghost use Rattle.asm_core.specs.Parts.{is_in_out, operand_count};
+ghost use Rattle.asm_statement.specs.Parts.{template_at, parts_at};
 ghost use Rattle.asm_statement.specs.Ends.{GivesForm};
 
 use crate::form_end::FormEnd;

@@ -1,7 +1,7 @@
 //! The asm statements of a text.
 
 ghost use Rattle.std.specs.Prelude.{◌≡◌, ◌<◌, ◌≤◌, Ok, drop, length, IfOk, All};
-ghost use Rattle.asm_core.specs.Statement.{IsSmallBody};
+ghost use Rattle.asm_core.specs.Parts.{IsBody};
 ghost use Rattle.c_tokens.specs.Tokens.{tokens_of};
 ghost use Rattle.asm_statement.specs.Statements.{behind_words, close_of, last_of, is_nested, body_of, statement_at, first_of, statements_from, statements_of};
 
@@ -146,8 +146,7 @@ pub fn statements(alloc: Global, t: &Tokens, text: &[u8]) -> Result<Items<Statem
     requires short { length text.now < 4294967295 }
     // Exactly the definition's statements, unless memory runs out.
     ensures is { IfOk result (λ list. list ≡ statements_of text.now t.now.list) }
-    // At most 30 operands each.
-    ensures few { IfOk result (All (λ (s : Statement). IsSmallBody s.body)) }
+    ensures parts { IfOk result (All (λ (s : Statement). IsBody s.body)) }
 {
     read_statements(alloc, t, text)
 }

@@ -5,30 +5,13 @@ use Rattle.std.proofs.lemmas.Bool.{ltb-true}
 use Rattle.std.proofs.lemmas.List.Sums.{AllPass-from_list_all}
 use Rattle.asm_core.specs.Lists.{IsMember}
 use Rattle.asm_core.specs.Shape.{shapes_of}
-use Rattle.asm_core.specs.Interface.{interface_of}
 use Rattle.asm_core.specs.Machine.{IsMachine}
 use Rattle.asm_core.specs.Placement.{spot_of}
 use Rattle.asm_core.specs.Entry.{IsEntry}
 use Rattle.asm_core.proofs.Examples.Machines.{fresh}
 use Rattle.asm_core.proofs.Examples.Placements.{copying, registers, in_eax}
-use Rattle.asm_core.specs.declared.span.Span.{Span}
-use Rattle.asm_core.specs.declared.statement.Quoted.{Quoted}
-use Rattle.asm_core.specs.declared.statement.Part.{Part}
 use Rattle.asm_core.specs.declared.placement.Form.{Form}
 use Rattle.asm_core.specs.declared.placement.Spot.{Spot}
-
-abbrev nowhere : Span
-nowhere = record { from = 0; to = 0 }
-
-abbrev quoted : List ℕ → Quoted
-quoted bytes = record { bytes = bytes; at = []; span = nowhere }
-
-abbrev part : List ℕ → Part
-part constraint = record { name = None; constraint = quoted constraint; expr = nowhere }
-
--- the interface of `"=r"(y):"r"(x)`
-of_copying : interface_of (record { template = quoted []; outputs = part (codes "=r") ∷ []; inputs = part (codes "r") ∷ []; clobbers = []; colons = 2; last = 0; bad_template = None }) ≡ copying
-of_copying = refl
 
 its_shape : IsMember registers (shapes_of copying)
 its_shape = inl refl

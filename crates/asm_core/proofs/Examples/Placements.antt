@@ -2,9 +2,8 @@
 use Rattle.std.proofs.Common.{◌≡◌, inl, inr, ℕ, zero, suc, pos, ◌≤ℤ◌, [], ◌∷◌, replicate, true, false, IsTrue, Some, slice_get, refl, ap, sym, subst, subst₂, ◌∙◌, arith}
 use Rattle.std.proofs.lemmas.Int.{ints}
 use Rattle.asm_core.specs.Reg.{no_regs, IsIn}
-use Rattle.asm_core.specs.Interface.{any_register}
 use Rattle.asm_core.specs.Placement.{spot_of, tie_root, is_output, Fits, HasOperand, IsAllowed, IsRoomy}
-use Rattle.asm_core.proofs.Examples.Shapes.{interface, operand, shape, tied_to, m}
+use Rattle.asm_core.proofs.Examples.Shapes.{any_register, interface, operand, shape, tied_to, m}
 use Rattle.asm_core.specs.declared.reg.Reg.{Reg}
 use Rattle.asm_core.specs.declared.reg.RegSet.{RegSet}
 use Rattle.asm_core.specs.declared.shape.Kind.{Kind}

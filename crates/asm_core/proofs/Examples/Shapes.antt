@@ -1,7 +1,6 @@
 -- Shapes in their order.
 use Rattle.std.proofs.Common.{◌≡◌, ℕ, pos, List, [], ◌∷◌, true, false, None, Some, refl}
-use Rattle.asm_core.specs.Reg.{no_regs}
-use Rattle.asm_core.specs.Interface.{any_register}
+use Rattle.asm_core.specs.Reg.{all_regs, no_regs}
 use Rattle.asm_core.specs.Shape.{shapes_of}
 use Rattle.asm_core.specs.Placement.{tie_root}
 use Rattle.asm_core.specs.declared.shape.Kind.{Kind}
@@ -11,6 +10,10 @@ use Rattle.asm_core.specs.declared.interface.Role.{Role}
 use Rattle.asm_core.specs.declared.interface.AltIface.{AltIface}
 use Rattle.asm_core.specs.declared.interface.OperandIface.{OperandIface}
 use Rattle.asm_core.specs.declared.interface.Interface.{Interface}
+
+-- the letter `r`
+abbrev pub any_register : AltIface
+any_register = record { early = false; tied = None; regs = all_regs; pair = false; mem = false; numbers = None }
 
 abbrev pub operand : Role → List AltIface → OperandIface
 operand role alts = record { role = role; size = 4; pointer = false; known = None; flag = None; alts = alts }

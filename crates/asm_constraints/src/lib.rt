@@ -1,0 +1,13 @@
+//! What an asm statement tells the compiler of its operands and of what it changes (GCC manual, "Extended Asm", "Constraints").
+#![tactic(auto)]
+
+mod clobber;
+mod interface;
+mod made;
+mod malformed;
+mod operand;
+mod outside;
+mod range;
+mod size;
+mod symbol_kind;
+mod symbol;
