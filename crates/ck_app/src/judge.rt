@@ -1,6 +1,7 @@
 //! What is printed of a file, by its bytes.
 
-ghost use Rattle.std.specs.Prelude.{◌≡◌, ◌<◌, ◌≤◌, Ok, length, IfOk};
+ghost use Rattle.std.specs.Prelude.{◌≡◌, ◌<◌, ◌≤◌, Ok, length, IfOk, All};
+ghost use Rattle.asm_core.specs.Parts.{IsBody};
 ghost use Rattle.c_tokens.specs.Cut.{IsOrdered};
 ghost use Rattle.c_tokens.specs.Tokens.{tokens_of};
 ghost use Rattle.c_words.specs.File.{file_of};
@@ -67,6 +68,7 @@ fn verdicts(
     requires small { length text.now ≤ MAX_FILE_BYTES }
     requires few { length tokens.now.list ≤ length text.now }
     requires ordered { IsOrdered 0 tokens.now.list (length text.now) }
+    requires parts { All (λ (s : Statement). IsBody s.body) statements.now }
     ensures { IfOk result (AreJudged (file_of text.now tokens.now.list) (declarations_of (file_of text.now tokens.now.list)) statements.now) }
 {
     match statements {

@@ -1,8 +1,8 @@
 //! The verdicts on the asm statements of a file.
 
-ghost use Rattle.std.specs.Prelude.{◌≡◌, ◌++◌, map, length, IfOk, OnOk};
+ghost use Rattle.std.specs.Prelude.{◌≡◌, ◌++◌, map, length, IfOk, OnOk, All};
 ghost use Rattle.std.specs.List.{list_any};
-ghost use Rattle.asm_core.specs.declared.statement.Body.{Body};
+ghost use Rattle.asm_core.specs.Parts.{IsParts, IsBody};
 ghost use Rattle.c_tokens.specs.Cut.{IsOrdered};
 ghost use Rattle.c_exprs.specs.Operands.{operand_of};
 ghost use Rattle.ck_app.specs.Answer.{status_of};
@@ -36,7 +36,8 @@ pub fn judge_statements(
     scopes: &Scopes,
     statements: &[Statement],
 ) -> Result<Items<Judged>, Memory>
-    requires { IsOrdered 0 source.now.tokens (length source.now.text) }
+    requires ordered { IsOrdered 0 source.now.tokens (length source.now.text) }
+    requires parts { All (λ (s : Statement). IsBody s.body) statements.now }
     ensures { IfOk result (AreJudged source.now scopes.now statements.now) }
 {
     let mut judged = Items::new(alloc);
@@ -55,7 +56,8 @@ fn judge_statement(
     scopes: &Scopes,
     statement: &Statement,
 ) -> Result<Verdict, Memory>
-    requires { IsOrdered 0 source.now.tokens (length source.now.text) }
+    requires ordered { IsOrdered 0 source.now.tokens (length source.now.text) }
+    requires parts { IsBody statement.now.body }
     ensures { IfOk result (IsJudgement source.now scopes.now statement.now) }
 {
     match &statement.body {
@@ -72,7 +74,8 @@ fn judge_parts(
     statement: &Statement,
     parts: &Parts,
 ) -> Result<Verdict, Memory>
-    requires { IsOrdered 0 source.now.tokens (length source.now.text) }
+    requires ordered { IsOrdered 0 source.now.tokens (length source.now.text) }
+    requires parts { IsParts parts.now }
     ensures { IfOk result (IsVerdictBy statement.now (interface_in source.now scopes.now parts.now)) }
 {
     let operands = operands(alloc, source, scopes, parts)?;
