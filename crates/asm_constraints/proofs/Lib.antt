@@ -1,2 +1,4 @@
+pub mod ListLemmas
 pub mod OperandLemmas
+pub mod RangeLemmas
 pub mod SymbolLemmas
