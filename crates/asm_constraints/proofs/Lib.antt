@@ -1,4 +1,5 @@
 pub mod ListLemmas
 pub mod OperandLemmas
 pub mod RangeLemmas
+pub mod ReadLemmas
 pub mod SymbolLemmas

@@ -1,5 +1,6 @@
 -- Every range of numbers has 0, and one that is kept has the known number.
 use Rattle.std.proofs.Common.{◌≡◌, ℕ, ◌==◌, ℤ, pos, negsuc, ◌≤ℤ◌, int_lt, ◌||◌, not, List, [], ◌∷◌, Bool, true, false, cond, Option, Some, None, fold, if◌then◌else◌, refl, sym, subst, arith}
+use borrow.Author.Tests.{tests}
 use Rattle.std.specs.Int.{int_min, int_max}
 use Rattle.std.proofs.lemmas.Int.{ints}
 use Rattle.asm_core.specs.Interface.{letter_range, symbol_range, joined, range_of, numbers_of_size, cut_to, has_known, kept_range, range_in, numbers_of}
@@ -98,7 +99,7 @@ kept_at true range kept e = let same : range ≡ kept = cc in (refl, same)
 kept_at false range kept e = cc
 
 known_in_range : (n : ℤ) (range : ℤ × ℤ) → has_known (Some n) range ≡ true → (range.0 ≤ℤ n) × (n ≤ℤ range.1)
-known_in_range n range e = ?
+known_in_range n range e = (grind (arith, ints, tests), grind (arith, ints, tests))
 
 -- what a kept range has
 pub record IsKept (known : Option ℤ) (range : ℤ × ℤ) : Type 0 where
