@@ -3,3 +3,4 @@ pub mod OperandLemmas
 pub mod RangeLemmas
 pub mod ReadLemmas
 pub mod SymbolLemmas
+pub mod WellFormedLemmas

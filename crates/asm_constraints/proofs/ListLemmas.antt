@@ -1,5 +1,5 @@
 -- What tests and searches tell of the items of a list.
-use Rattle.std.proofs.Common.{◌≡◌, ℕ, zero, suc, List, [], ◌∷◌, ◌++◌, map, replicate, Bool, true, false, cond, ◌||◌, Option, Some, None, slice_get, refl, sym, ◌∙◌, ap, subst}
+use Rattle.std.proofs.Common.{◌≡◌, ℕ, zero, suc, ◌<◌, List, [], ◌∷◌, ◌++◌, map, length, replicate, Bool, true, false, cond, ◌||◌, Option, Some, None, slice_get, refl, sym, ◌∙◌, ap, subst, arith}
 use Rattle.std.specs.List.{filter, find, flat_map, list_any}
 use Rattle.std.proofs.lemmas.List.Folds.{list_any-append}
 
@@ -79,6 +79,12 @@ module _ {A : Type 0} where
     filter-none [] k x e at = cc
     filter-none (y ∷ ys) zero x e at = let same : y ≡ x = cc in subst (λ (z : A). p z ≡ false) same (filter_none_at (p y) y (filter p ys) e).0
     filter-none (y ∷ ys) (suc k) x e at = filter-none ys k x (filter_none_at (p y) y (filter p ys) e).1 at
+
+  -- an item within a list
+  pub slice_get_there : (xs : List A) (k : ℕ) → k < length xs → (x : A) × (slice_get xs k ≡ Some x)
+  slice_get_there [] k lt = absurd (omega arith)
+  slice_get_there (x ∷ xs) zero lt = (x, refl)
+  slice_get_there (x ∷ xs) (suc k) lt = slice_get_there xs k (omega arith)
 
   -- an item of a list of equal items
   pub slice_get-replicate : (n k : ℕ) (x y : A) → slice_get (replicate n x) k ≡ Some y → y ≡ x
