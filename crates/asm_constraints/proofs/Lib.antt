@@ -1,3 +1,4 @@
+pub mod InterfaceLemmas
 pub mod ListLemmas
 pub mod OperandLemmas
 pub mod RangeLemmas
