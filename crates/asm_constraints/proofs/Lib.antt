@@ -1,2 +1,7 @@
+pub mod InterfaceLemmas
+pub mod ListLemmas
 pub mod OperandLemmas
+pub mod RangeLemmas
+pub mod ReadLemmas
 pub mod SymbolLemmas
+pub mod WellFormedLemmas

@@ -2,12 +2,14 @@
 #![tactic(auto)]
 
 mod clobber;
-mod interface;
 mod made;
 mod malformed;
 mod operand;
 mod outside;
 mod range;
 mod size;
-mod symbol_kind;
+mod statement;
 mod symbol;
+mod symbol_kind;
+
+pub use statement::interface;

@@ -11,7 +11,8 @@ use crate::clobber::{clobbered_registers, is_cc, is_memory};
 use crate::malformed::alternative_count;
 use crate::operand::optional_at;
 use crate::range::numbers_of;
-use crate::symbol_kind::{is_early, is_letter_for, is_pair_letter};
+use crate::size::has_letter_for;
+use crate::symbol_kind::{is_early, is_pair_letter};
 use asm_core::{AltIface, ConstrainedOperand, Interface, Items, Kind, Letter, Memory, Operand, OperandIface, Quoted, RegSet, Symbol};
 use bitflags::Flags;
 use std::alloc::Global;
@@ -94,12 +95,6 @@ fn has_pair_letter(alternative: &[Symbol]) -> bool
     alternative.iter().any(|symbol| is_pair_letter(*symbol))
 }
 
-fn has_letter_for(kind: Kind, alternative: &[Symbol]) -> bool
-    ensures { result ≡ list_any (is_letter_for kind) alternative.now }
-{
-    alternative.iter().any(|symbol| is_letter_for(kind, *symbol))
-}
-
 /// What an alternative allows an operand of that size and known value.
 #[tactic(auto, unfolding(asm_core::specs::Interface::alternative_of))]
 fn alternative_of(output: bool, size: u32, known: Option<i64>, alternative: &[Symbol]) -> AltIface
@@ -110,7 +105,7 @@ fn alternative_of(output: bool, size: u32, known: Option<i64>, alternative: &[Sy
         tied: tie_of(alternative),
         regs: registers_of(alternative),
         pair: has_pair_letter(alternative),
-        mem: has_letter_for(Kind::Memory, alternative),
+        mem: has_letter_for(output, Kind::Memory, alternative),
         numbers: numbers_of(output, size, known, alternative),
     }
 }

@@ -24,10 +24,10 @@ fn alternative_at(operand: &ConstrainedOperand, a: usize) -> &[Symbol]
 }
 
 /// Whether some symbol is a letter that allows the kind.
-fn has_letter_for(kind: Kind, symbols: &[Symbol]) -> bool
-    ensures { result ≡ list_any (is_letter_for kind) symbols.now }
+pub fn has_letter_for(output: bool, kind: Kind, symbols: &[Symbol]) -> bool
+    ensures { result ≡ list_any (is_letter_for output kind) symbols.now }
 {
-    symbols.iter().any(|symbol| is_letter_for(kind, *symbol))
+    symbols.iter().any(|symbol| is_letter_for(output, kind, *symbol))
 }
 
 /// Whether some symbol ties to the operand of that number.
@@ -41,7 +41,7 @@ fn has_tie_to(number: u8, symbols: &[Symbol]) -> bool
 fn tie_allows(kind: Kind, a: usize, alternative: &[Symbol], operand: &ConstrainedOperand) -> bool
     ensures { result ≡ tie_allows kind a alternative.now operand.now }
 {
-    has_tie_to(operand.number, alternative) && has_letter_for(kind, alternative_at(operand, a))
+    has_tie_to(operand.number, alternative) && has_letter_for(operand.output, kind, alternative_at(operand, a))
 }
 
 /// Whether some tie of an alternative names an operand that allows the kind there.
@@ -60,13 +60,14 @@ fn some_tie_allows(
 #[tactic(auto, unfolding(asm_core::specs::Size::alternative_allows))]
 fn alternative_allows(
     operands: &[ConstrainedOperand],
+    output: bool,
     kind: Kind,
     a: usize,
     alternative: &[Symbol],
 ) -> bool
-    ensures { result ≡ alternative_allows operands.now kind a alternative.now }
+    ensures { result ≡ alternative_allows operands.now output kind a alternative.now }
 {
-    has_letter_for(kind, alternative) || some_tie_allows(operands, kind, a, alternative)
+    has_letter_for(output, kind, alternative) || some_tie_allows(operands, kind, a, alternative)
 }
 
 /// Whether some alternative of the operand allows the kind.
@@ -74,12 +75,13 @@ fn alternative_allows(
 fn operand_allows(operands: &[ConstrainedOperand], kind: Kind, operand: &ConstrainedOperand) -> bool
     ensures { result ≡ operand_allows operands.now kind operand.now }
 {
+    let output = operand.output;
     operand
         .alternatives
         .as_slice()
         .iter()
         .enumerate()
-        .any(|(a, alternative)| alternative_allows(operands, kind, a, alternative.as_slice()))
+        .any(|(a, alternative)| alternative_allows(operands, output, kind, a, alternative.as_slice()))
 }
 
 /// Whether some letter of the operand is `A`.
@@ -96,14 +98,15 @@ fn has_pair_letter(operand: &ConstrainedOperand) -> bool
 
 /// Whether some letter of the operand other than `A` allows a register or a number.
 fn has_word_letter(operand: &ConstrainedOperand) -> bool
-    ensures { result ≡ list_any is_word_letter (all_symbols operand.now) }
+    ensures { result ≡ list_any (is_word_letter operand.now.output) (all_symbols operand.now) }
 {
+    let output = operand.output;
     operand
         .alternatives
         .as_slice()
         .iter()
         .flat_map(|alternative| alternative.as_slice().iter())
-        .any(|symbol| is_word_letter(*symbol))
+        .any(|symbol| is_word_letter(output, *symbol))
 }
 
 /// Whether some tie of the operand names that output.
@@ -243,7 +246,7 @@ fn lets_write_alone(
 ) -> bool
     ensures { result ≡ lets_write_alone operands.now number a alternative.now }
 {
-    alternative_allows(operands, Kind::Memory, a, alternative) && !has_tied_input(operands, number, a)
+    alternative_allows(operands, true, Kind::Memory, a, alternative) && !has_tied_input(operands, number, a)
 }
 
 #[tactic(auto, unfolding(asm_core::specs::Size::may_be_written_alone))]

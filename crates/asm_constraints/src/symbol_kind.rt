@@ -25,12 +25,12 @@ fn letter_allows(kind: Kind, letter: Letter) -> bool
     }
 }
 
-/// Whether the symbol is a letter that allows the kind.
-pub fn is_letter_for(kind: Kind, symbol: Symbol) -> bool
-    ensures { result ≡ is_letter_for kind symbol }
+/// Whether the symbol is a letter that allows the kind. In an output none allows a number.
+pub fn is_letter_for(output: bool, kind: Kind, symbol: Symbol) -> bool
+    ensures { result ≡ is_letter_for output kind symbol }
 {
     match symbol {
-        Symbol::Letter(letter) => letter_allows(kind, letter),
+        Symbol::Letter(letter) => letter_allows(kind, letter) && !(output && matches!(kind, Kind::Number)),
         _ => false,
     }
 }
@@ -42,10 +42,11 @@ pub fn is_pair_letter(symbol: Symbol) -> bool
 }
 
 /// Whether the symbol is a letter other than `A` that allows a register or a number.
-pub fn is_word_letter(symbol: Symbol) -> bool
-    ensures { result ≡ is_word_letter symbol }
+pub fn is_word_letter(output: bool, symbol: Symbol) -> bool
+    ensures { result ≡ is_word_letter output symbol }
 {
-    !is_pair_letter(symbol) && (is_letter_for(Kind::Register, symbol) || is_letter_for(Kind::Number, symbol))
+    !is_pair_letter(symbol)
+        && (is_letter_for(output, Kind::Register, symbol) || is_letter_for(output, Kind::Number, symbol))
 }
 
 /// Whether the symbol ties to the operand of that number.

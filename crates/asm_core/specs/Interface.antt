@@ -122,7 +122,7 @@ alternative_of output size known alternative = record {
   tied = tie_of alternative;
   regs = registers_of alternative;
   pair = list_any is_pair_letter alternative;
-  mem = list_any (is_letter_for Kind.Memory) alternative;
+  mem = list_any (is_letter_for output Kind.Memory) alternative;
   numbers = numbers_of output size known alternative;
 }
 

@@ -43,13 +43,13 @@ letter_allows kind AddressShift = is_number_kind kind
 letter_allows kind UnsignedByte = is_number_kind kind
 letter_allows kind General = true
 
--- the symbol is a letter that allows the kind
-abbrev pub is_letter_for : Kind → Symbol → Bool
-is_letter_for kind (symbols.Letter letter) = letter_allows kind letter
-is_letter_for kind symbols.Early = false
-is_letter_for kind (symbols.Tie output) = false
-is_letter_for kind symbols.Sign = false
-is_letter_for kind symbols.Other = false
+-- The symbol is a letter that allows the kind. In an output no letter allows a number: an output can be in none.
+abbrev pub is_letter_for : Bool → Kind → Symbol → Bool
+is_letter_for output kind (symbols.Letter letter) = letter_allows kind letter && not (output && is_number_kind kind)
+is_letter_for output kind symbols.Early = false
+is_letter_for output kind (symbols.Tie number) = false
+is_letter_for output kind symbols.Sign = false
+is_letter_for output kind symbols.Other = false
 
 abbrev pub is_pair_letter : Symbol → Bool
 is_pair_letter (symbols.Letter Pair) = true
@@ -73,15 +73,15 @@ ties_to number symbols.Other = false
 
 -- a tie of these symbols names the operand, whose letters allow the kind in that alternative
 unfoldable pub tie_allows : Kind → ℕ → List Symbol → ConstrainedOperand → Bool
-tie_allows kind a alternative w = list_any (ties_to w.number) alternative && list_any (is_letter_for kind) (alternative_at w a)
+tie_allows kind a alternative w = list_any (ties_to w.number) alternative && list_any (is_letter_for w.output kind) (alternative_at w a)
 
 -- A tie allows what the letters of its output allow in that alternative, and nothing where it names no output.
-unfoldable pub alternative_allows : List ConstrainedOperand → Kind → ℕ → List Symbol → Bool
-alternative_allows ws kind a alternative = list_any (is_letter_for kind) alternative || list_any (tie_allows kind a alternative) ws
+unfoldable pub alternative_allows : List ConstrainedOperand → Bool → Kind → ℕ → List Symbol → Bool
+alternative_allows ws output kind a alternative = list_any (is_letter_for output kind) alternative || list_any (tie_allows kind a alternative) ws
 
 -- some alternative allows the kind
 unfoldable pub operand_allows : List ConstrainedOperand → Kind → ConstrainedOperand → Bool
-operand_allows ws kind w = list_any (λ (x : ℕ × List Symbol). alternative_allows ws kind x.0 x.1) (enumerate_from 0 w.alternatives)
+operand_allows ws kind w = list_any (λ (x : ℕ × List Symbol). alternative_allows ws w.output kind x.0 x.1) (enumerate_from 0 w.alternatives)
 
 abbrev pub allows_memory : List ConstrainedOperand → ConstrainedOperand → Bool
 allows_memory ws w = operand_allows ws Kind.Memory w
@@ -107,12 +107,12 @@ unfoldable pub is_broken_pair : ConstrainedOperand → ℕ → Bool
 is_broken_pair w size = not (size == 8) && list_any is_pair_letter (all_symbols w)
 
 -- a letter other than `A` that allows a register or a number
-abbrev pub is_word_letter : Symbol → Bool
-is_word_letter s = not (is_pair_letter s) && (is_letter_for Kind.Register s || is_letter_for Kind.Number s)
+abbrev pub is_word_letter : Bool → Symbol → Bool
+is_word_letter output s = not (is_pair_letter s) && (is_letter_for output Kind.Register s || is_letter_for output Kind.Number s)
 
 -- such a letter is there, or the operand is a flag output, and the size isn't 1, 2 or 4
 unfoldable pub is_broken_word : ConstrainedOperand → ℕ → Bool
-is_broken_word w size = not (is_word_size size) && (is_some w.flag || list_any is_word_letter (all_symbols w))
+is_broken_word w size = not (is_word_size size) && (is_some w.flag || list_any (is_word_letter w.output) (all_symbols w))
 
 abbrev pub is_same_size : Option ℕ → Option ℕ → Bool
 is_same_size None None = true
@@ -145,7 +145,7 @@ has_tied_input ws number a = list_any (is_tied_input number a) ws
 
 -- an alternative lets the operand be in memory and ties no input to it
 abbrev pub lets_write_alone : List ConstrainedOperand → ℕ → ℕ → List Symbol → Bool
-lets_write_alone ws number a alternative = alternative_allows ws Kind.Memory a alternative && not (has_tied_input ws number a)
+lets_write_alone ws number a alternative = alternative_allows ws true Kind.Memory a alternative && not (has_tied_input ws number a)
 
 unfoldable pub may_be_written_alone : List ConstrainedOperand → ConstrainedOperand → Bool
 may_be_written_alone ws w = list_any (λ (x : ℕ × List Symbol). lets_write_alone ws w.number x.0 x.1) (enumerate_from 0 w.alternatives)

@@ -97,3 +97,23 @@ fn interface_said(
     let constrained = constrained_operands(alloc, parts, names.as_slice(), operands)?;
     interface_in(alloc, parts, strict, constrained.as_slice(), names.as_slice())
 }
+
+/// What a statement tells the compiler of its operands and of what it changes (GCC manual, "Extended Asm" and
+/// "Constraints"), in this project's tables. `operands` says what is known of the operands' expressions, outputs first;
+/// an operand without an entry has no type. Unless `strict` is asked for, the flags count as changed.
+///
+/// # Errors
+/// The first mark of what lies outside the tables: a clobber, an operand, a constraint or the template, in this order of
+/// kinds; where there is none, the findings of the rule K2; or want of memory.
+pub fn interface(
+    alloc: Global,
+    parts: &Parts,
+    operands: &[Option<Operand>],
+    strict: bool,
+) -> Result<Interface, IfaceEnd>
+    requires { IsParts parts.now }
+    ensures is { GivesInterface result (interface_of parts.now operands.now strict) }
+    ensures kept { IfOk result IsInterface }
+{
+    interface_said(alloc, parts, operands, strict)
+}
