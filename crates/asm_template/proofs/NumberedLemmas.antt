@@ -119,10 +119,12 @@ cut-numbered q names braced i =
     let bar = bar_at q.bytes braced at i in
     let closing = closing_at braced at i in
     let byte = cut braced (forms.Byte b at) (i + 1) in
-    by_test P (b == 37) percent (if b == 123 then opening else if b == 124 then bar else if b == 125 then closing else byte) (percent-numbered q.bytes names braced at i)
+    let outside = cut braced (forms.Outside at) (i + 1) in
+    by_test P (b == 0) outside (if b == 37 then percent else if b == 123 then opening else if b == 124 then bar else if b == 125 then closing else byte) (cut-is (length names) outside tt)
+    (by_test P (b == 37) percent (if b == 123 then opening else if b == 124 then bar else if b == 125 then closing else byte) (percent-numbered q.bytes names braced at i)
     (by_test P (b == 123) opening (if b == 124 then bar else if b == 125 then closing else byte) (opening-numbered (length names) q.bytes braced at i)
     (by_test P (b == 124) bar (if b == 125 then closing else byte) (bar-numbered (length names) q.bytes braced at i)
-    (by_test P (b == 125) closing byte (closing-numbered (length names) braced at i) (cut-is (length names) byte tt))))
+    (by_test P (b == 125) closing byte (closing-numbered (length names) braced at i) (cut-is (length names) byte tt)))))
 
 none-numbered : (count : ℕ) → AreNumbered count []
 unfolding AreNumbered

@@ -202,6 +202,11 @@ escaped : scan_of (record { bytes = 10 ∷ 37 ∷ 113 ∷ []; at = 20 ∷ 22 ∷
 unfolding line_end block_end comment_end comment_until comments_from written_at percent_at group_end cut_at forms_from first_outside
 escaped = refl
 
+-- gcc gives nothing of what stands behind a byte 0
+zero_byte : reads (97 ∷ 35 ∷ 0 ∷ 10 ∷ 98 ∷ []) ≡ Outside 2
+unfolding line_end block_end comment_end comment_until comments_from written_at percent_at group_end cut_at forms_from first_outside
+zero_byte = refl
+
 -- an operand that isn't there comes last
 as_pieces : map (λ bytes. pieces_of (text bytes) names) (codes "%0" ∷ codes "%9" ∷ codes "%9%q" ∷ [])
     ≡ Ok (Hole 0 Plain 0 ∷ []) ∷ Err ends.NoOperand ∷ Err (ends.Outside (record { kind = Template; place = 0 })) ∷ []
