@@ -123,12 +123,13 @@ bar_at bytes braced at i =
 abbrev pub closing_at : Bool → ℕ → ℕ → TemplateCut
 closing_at braced at i = if braced then turn false (i + 1) else cut false (forms.Outside at) (i + 1)
 
--- What stands at an index.
+-- What stands at an index. A byte 0 is outside, since gcc gives nothing of what stands behind it.
 unfoldable pub cut_at : Quoted → List (Option (List ℕ)) → Bool → ℕ → TemplateCut
 cut_at q names braced i =
     let b = slice_index q.bytes i in
     let at = slice_index q.at i in
-    if b == 37 then percent_at q.bytes names braced at i
+    if b == 0 then cut braced (forms.Outside at) (i + 1)
+    else if b == 37 then percent_at q.bytes names braced at i
     else if b == 123 then opening_at q.bytes braced at i
     else if b == 124 then bar_at q.bytes braced at i
     else if b == 125 then closing_at braced at i

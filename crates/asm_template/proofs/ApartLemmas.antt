@@ -1,5 +1,5 @@
 -- What stands apart in a template still does without its comments.
-use Rattle.std.proofs.Common.{◌≡◌, ◌∙◌, ℕ, ◌+◌, ◌<◌, ◌≤◌, Bool, true, false, IsTrue, List, [], ◌∷◌, ◌++◌, map, drop, length, Option, Some, None, cond, refl, ap, sym, arith, suc, zero, max, ◌&&◌, ◌||◌}
+use Rattle.std.proofs.Common.{◌≡◌, ℕ, Bool, true, false, List, [], ◌∷◌, ◌++◌, map, length, Option, Some, None, cond, refl, arith, max, ◌&&◌, ◌||◌}
 use Rattle.std.specs.List.{list_any}
 use Rattle.std.proofs.lemmas.Bool.{and_parts}
 use Rattle.asm_core.specs.declared.piece.Modifier.{Modifier}
@@ -7,7 +7,7 @@ use Rattle.asm_core.specs.declared.piece.Piece.{Piece}
 use Rattle.asm_core.specs.declared.piece.Piece.TheVariants as pieces
 use Rattle.asm_core.specs.declared.template_form.TemplateForm.{TemplateForm}
 use Rattle.asm_core.specs.declared.template_form.TemplateForm.TheVariants as forms
-use Rattle.asm_core.specs.Pieces.{ends_label, ends_name, may_follow, may_precede, first_outside, form_code, is_missing, may_stand, piece_code, pieces_in, StandsApart, StandApart}
+use Rattle.asm_core.specs.Pieces.{ends_label, ends_name, may_follow, may_precede, first_outside, form_code, is_missing, piece_code, pieces_in, StandsApart}
 
 -- a piece stands apart, unless it is in a comment
 abbrev pub StandsOrInside : Bool → List ℕ → Piece → List ℕ → Type 0

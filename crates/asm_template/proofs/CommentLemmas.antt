@@ -4,7 +4,7 @@ use Rattle.std.proofs.lemmas.List.{drop_more, drop_all, append-nil, get_or_past}
 use Rattle.std.proofs.Math.Bool.{and-false}
 use Rattle.std.proofs.lemmas.Bool.{cases_lt}
 use Rattle.std.proofs.lemmas.Bool.Decides.{nat_tests}
-use Rattle.asm_core.specs.Comments.{closes_block, line_end, block_end, comment_until, comments_from, comments_of}
+use Rattle.asm_core.specs.Comments.{closes_block, line_end, block_end, comment_until, comments_from}
 
 pub line_end-step : (text : List ℕ) (i : ℕ) → i < length text → line_end i (drop i text) ≡ cond (get_or text i 0 == 10) i (line_end (i + 1) (drop (i + 1) text))
 unfolding line_end

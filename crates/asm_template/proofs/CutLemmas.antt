@@ -5,7 +5,7 @@ use Rattle.std.proofs.lemmas.Bool.{le-ltb}
 use Rattle.asm_core.specs.declared.statement.Quoted.{Quoted}
 use Rattle.asm_core.specs.declared.template_form.TemplateForm.{TemplateForm}
 use Rattle.asm_core.specs.declared.template_form.TemplateCut.{TemplateCut}
-use Rattle.asm_core.specs.TemplateForms.{cut_at, forms_from, forms_of, with_form}
+use Rattle.asm_core.specs.TemplateForms.{cut_at, forms_from, with_form}
 
 -- the bytes of a form are passed over
 skip : (q : Quoted) (names : List (Option (List ℕ))) (braced : Bool) (until k i : ℕ) → i + k ≡ until → until ≤ length q.bytes

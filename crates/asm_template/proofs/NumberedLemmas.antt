@@ -1,5 +1,5 @@
 -- Every operand that a form names is one of those that are there.
-use Rattle.std.proofs.Common.{◌≡◌, ◌∙◌, ℕ, ◌+◌, ◌<◌, ◌≤◌, Bool, true, false, List, [], ◌∷◌, drop, length, Option, Some, None, cond, refl, arith, nat_lt, lt-ltb, inl, inr, All, slice_index, is_some, ◌==◌, if◌then◌else◌}
+use Rattle.std.proofs.Common.{◌≡◌, ℕ, ◌+◌, ◌<◌, Bool, true, false, List, [], ◌∷◌, drop, length, Option, Some, None, cond, nat_lt, lt-ltb, inl, inr, All, slice_index, is_some, ◌==◌, if◌then◌else◌}
 use Rattle.std.proofs.lemmas.Bool.{cases_lt, le-ltb}
 use Rattle.std.proofs.lemmas.List.Elements.{All-cons}
 use Rattle.asm_core.specs.Pieces.{NamesOneOf, pieces_in}
@@ -11,7 +11,7 @@ use Rattle.asm_core.specs.declared.template_form.TemplateForm.{TemplateForm}
 use Rattle.asm_core.specs.declared.template_form.TemplateForm.TheVariants as forms
 use Rattle.asm_core.specs.declared.template_form.TemplateCut.{TemplateCut}
 use Rattle.asm_core.specs.declared.template_form.WrittenOperand.{WrittenOperand}
-use Rattle.asm_core.specs.TemplateForms.{cut, turn, group_end, is_quotable, bar_at, closing_at, cut_at, forms_from, hole, is_digit, is_named, modified, modifier_of, opening_at, operand_named, operand_numbered, percent_at, with_form, written_at, written_name, written_number}
+use Rattle.asm_core.specs.TemplateForms.{cut, turn, group_end, is_quotable, bar_at, closing_at, cut_at, forms_from, hole, modified, modifier_of, opening_at, percent_at, with_form, written_at, written_name}
 
 abbrev pub IsBelow : ℕ → Option ℕ → Type 0
 IsBelow count None = Unit {0}
@@ -119,10 +119,12 @@ cut-numbered q names braced i =
     let bar = bar_at q.bytes braced at i in
     let closing = closing_at braced at i in
     let byte = cut braced (forms.Byte b at) (i + 1) in
-    by_test P (b == 37) percent (if b == 123 then opening else if b == 124 then bar else if b == 125 then closing else byte) (percent-numbered q.bytes names braced at i)
+    let outside = cut braced (forms.Outside at) (i + 1) in
+    by_test P (b == 0) outside (if b == 37 then percent else if b == 123 then opening else if b == 124 then bar else if b == 125 then closing else byte) (cut-is (length names) outside tt)
+    (by_test P (b == 37) percent (if b == 123 then opening else if b == 124 then bar else if b == 125 then closing else byte) (percent-numbered q.bytes names braced at i)
     (by_test P (b == 123) opening (if b == 124 then bar else if b == 125 then closing else byte) (opening-numbered (length names) q.bytes braced at i)
     (by_test P (b == 124) bar (if b == 125 then closing else byte) (bar-numbered (length names) q.bytes braced at i)
-    (by_test P (b == 125) closing byte (closing-numbered (length names) braced at i) (cut-is (length names) byte tt))))
+    (by_test P (b == 125) closing byte (closing-numbered (length names) braced at i) (cut-is (length names) byte tt)))))
 
 none-numbered : (count : ℕ) → AreNumbered count []
 unfolding AreNumbered

@@ -1,10 +1,8 @@
 -- One step to the leftmost form that is outside.
-use Rattle.std.proofs.Common.{◌≡◌, ◌∙◌, ℕ, ◌+◌, ◌<◌, ◌≤◌, Bool, true, false, List, [], ◌∷◌, ◌++◌, take, drop, map, length, get_or, Some, None, cond, refl, arith, ap, sym}
+use Rattle.std.proofs.Common.{◌≡◌, ◌∙◌, ℕ, ◌+◌, ◌<◌, ◌≤◌, Bool, true, false, List, take, drop, map, length, get_or, Some, None, cond, refl, arith, ap}
 use Rattle.std.specs.List.{drop-map}
 use Rattle.std.proofs.lemmas.List.{drop_more, drop_all, take_more, get_or-map, length-map}
-use Rattle.std.proofs.lemmas.Bool.Decides.{nat_tests}
 use Rattle.asm_core.specs.declared.template_form.TemplateForm.{TemplateForm}
-use Rattle.asm_core.specs.Comments.{comments_from, comments_of}
 use Rattle.asm_core.specs.Pieces.{first_outside, form_code, may_stand, place_of}
 
 outside-step : (forms : List TemplateForm) (codes : List ℕ) (marks : List Bool) (k : ℕ) (d : TemplateForm) → codes ≡ map form_code forms → length marks ≡ length forms → k < length forms

@@ -1,11 +1,11 @@
 -- What the pieces of a template keep.
-use Rattle.std.proofs.Common.{◌≡◌, ◌∙◌, ℕ, false, List, [], map, length, Option, None, sym, subst, ap}
+use Rattle.std.proofs.Common.{◌≡◌, ◌∙◌, ℕ, false, List, [], map, length, Option, None, sym, subst}
 use Rattle.std.specs.List.{list_any}
 use Rattle.std.proofs.lemmas.List.{length-map}
 use Rattle.asm_core.specs.declared.statement.Quoted.{Quoted}
 use Rattle.asm_core.specs.Comments.{comments_of}
 use Rattle.asm_core.specs.TemplateForms.{forms_of}
-use Rattle.asm_core.specs.Pieces.{ArePieces, first_outside, form_code, is_missing, piece_code, pieces_in}
+use Rattle.asm_core.specs.Pieces.{ArePieces, first_outside, form_code, is_missing, pieces_in}
 use Rattle.asm_template.proofs.ApartLemmas.{judged, StandOrInside}
 use Rattle.asm_template.proofs.CommentLemmas.{comments-length}
 use Rattle.asm_template.proofs.NumberedLemmas.{forms-numbered, pieces-numbered}

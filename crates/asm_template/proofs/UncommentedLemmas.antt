@@ -1,8 +1,8 @@
 -- What stands apart in a template still does without its comments.
 use Rattle.std.proofs.Common.{◌≡◌, ◌∙◌, ◌⊎◌, inl, inr, ℕ, zero, suc, ◌+◌, ◌-◌, ◌<◌, ◌≤◌, Bool, true, false, List, [], ◌∷◌, ◌++◌, map, take, drop, length, get_or, Option, if◌then◌else◌, Some, None, unwrap_or, cond, refl, ap, sym, subst, arith, nat_lt, lt-ltb, ◌==◌, ◌&&◌, ◌||◌, not}
-use Rattle.std.proofs.lemmas.List.{drop_more, drop_all, take_more, length-append, length-drop, length-map, length-take-le, get_or-take}
+use Rattle.std.proofs.lemmas.List.{drop_more, take_more, length-append, length-drop, length-take-le, get_or-take}
 use Rattle.std.proofs.lemmas.Bool.{and_parts, cases_lt, eqb-true, le-ltb, ltb-true}
-use Rattle.std.proofs.lemmas.Bool.Decides.{eqb_tells, leb_tells}
+use Rattle.std.proofs.lemmas.Bool.Decides.{eqb_tells}
 use Rattle.std.proofs.Math.Bool.{and-false}
 use Rattle.std.proofs.Math.Seq.{get_or-append_seam}
 use Rattle.asm_core.specs.declared.piece.Modifier.{Modifier}
@@ -10,7 +10,7 @@ use Rattle.asm_core.specs.declared.piece.Piece.{Piece}
 use Rattle.asm_core.specs.declared.piece.Piece.TheVariants as pieces
 use Rattle.asm_core.specs.Comments.{block_end, comment_breaks, closes_block, comment_end, comment_until, comments_from, comments_of, is_one_of, kept, line_end, opens_block, uncommented}
 use Rattle.asm_core.specs.Pieces.{ends_name, is_bare, is_word, may_follow, may_precede, piece_code, StandsApart, StandApart}
-use Rattle.asm_template.proofs.CommentLemmas.{block_end-done, block_end-step, comments-done, comments-step, line_end-done, line_end-other, line_end-stop}
+use Rattle.asm_template.proofs.CommentLemmas.{block_end-done, block_end-step, comments-step, line_end-done, line_end-other, line_end-stop}
 use Rattle.asm_template.proofs.ApartLemmas.{StandsOrInside, StandOrInside}
 
 -- Where a comment may end: nowhere yet, behind `*/`, at a newline, at the end.

@@ -1,6 +1,5 @@
 -- What an answer says of the definition's value, memory aside.
-use Rattle.std.specs.Prelude.{◌≡◌, ℕ, List, Option, Result, Ok, Err}
-use Rattle.asm_core.specs.declared.mark.Mark.{Mark}
+use Rattle.std.specs.Prelude.{◌≡◌, List, Result, Ok, Err}
 use Rattle.asm_core.specs.declared.mark.MarkKind.TheVariants.{Template}
 use Rattle.asm_core.specs.declared.piece.Piece.{Piece}
 use Rattle.asm_core.specs.declared.piece.Pieces.{Pieces}

@@ -75,6 +75,8 @@ fn cut_at(template: &Quoted, names: &[Option<Items<u8>>], braced: bool, i: usize
     let bytes = template.bytes.as_slice();
     let at = template.at.as_slice()[i];
     match bytes[i] {
+        // gcc gives nothing of what stands behind it.
+        0 => cut(braced, TemplateForm::Outside(at), i + 1),
         b'%' => percent_at(bytes, names, braced, at, i),
         b'{' => opening_at(bytes, braced, at, i),
         b'|' => bar_at(bytes, braced, at, i),

@@ -1,6 +1,6 @@
 -- Templates and their pieces. What each gives was worked out by hand from GCC's manual and the rules; a number where a
 -- template is outside is the offset of the leftmost form that is.
-use Rattle.std.proofs.Common.{◌≡◌, ℕ, true, false, List, [], ◌∷◌, ◌++◌, map, Option, Some, None, Ok, Err, codes, refl}
+use Rattle.std.proofs.Common.{◌≡◌, ℕ, true, false, List, [], ◌∷◌, map, Option, Some, None, Ok, Err, codes, refl}
 use Rattle.asm_core.specs.declared.mark.MarkKind.TheVariants.{Template}
 use Rattle.asm_core.specs.declared.piece.Modifier.TheVariants.{Plain, B, W, K, H, C}
 use Rattle.asm_core.specs.declared.piece.Piece.TheVariants.{Byte, Hole, Unique}
@@ -201,6 +201,11 @@ outside_first = refl
 escaped : scan_of (record { bytes = 10 ∷ 37 ∷ 113 ∷ []; at = 20 ∷ 22 ∷ 23 ∷ []; span = record { from = 19; to = 25 } }) names ≡ Outside 22
 unfolding line_end block_end comment_end comment_until comments_from written_at percent_at group_end cut_at forms_from first_outside
 escaped = refl
+
+-- gcc gives nothing of what stands behind a byte 0
+zero_byte : reads (97 ∷ 35 ∷ 0 ∷ 10 ∷ 98 ∷ []) ≡ Outside 2
+unfolding line_end block_end comment_end comment_until comments_from written_at percent_at group_end cut_at forms_from first_outside
+zero_byte = refl
 
 -- an operand that isn't there comes last
 as_pieces : map (λ bytes. pieces_of (text bytes) names) (codes "%0" ∷ codes "%9" ∷ codes "%9%q" ∷ [])

@@ -1,7 +1,7 @@
-use Rattle.std.proofs.Common.{◌≡◌, ◌∙◌, sym, ap, subst, length, map, [], None, false}
+use Rattle.std.proofs.Common.{◌≡◌, ◌∙◌, sym, ap, map, [], None, false}
 use Rattle.std.specs.List.{list_any}
 use Rattle.std.proofs.lemmas.List.{length-map}
-use Rattle.asm_core.specs.Pieces.{ArePieces, first_outside, form_code, is_missing, pieces_in}
+use Rattle.asm_core.specs.Pieces.{first_outside, form_code, is_missing, pieces_in}
 use Rattle.asm_core.specs.Comments.{comments_of}
 use Rattle.asm_core.specs.TemplateForms.{forms_of}
 use Rattle.asm_template.proofs.PieceLaws.{are_pieces, marks-length}
