@@ -1,0 +1,6 @@
+pub mod Sets
+pub mod Tables
+pub mod Placing
+pub mod Joining
+pub mod Narrowing
+pub mod Trying
