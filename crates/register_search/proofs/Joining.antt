@@ -5,7 +5,8 @@ use Rattle.std.proofs.Math.Nat.{zero-min}
 use Rattle.std.proofs.lemmas.Nat.{and_comm}
 use Rattle.std.proofs.lemmas.Nat.Bits.{bit_at_and, bit_at-zero, same_from_bits}
 use Rattle.std.proofs.lemmas.Bool.{eqb-true, eq-eqb, cases_lt}
-use Rattle.register_search.specs.Assignment.{registers_of, may_take, takes_registers, are_rivals, IsAssignment, HasAssignment, HasFewGroups}
+use Rattle.register_search.proofs.FewGroups.{AreNumbersBelow}
+use Rattle.register_search.specs.Assignment.{registers_of, may_take, takes_registers, are_rivals, IsAssignment, HasAssignment}
 use Rattle.register_search.specs.Table.{is_same, leads_all, leads_numbered, always}
 use Rattle.register_search.specs.declared.class.Group.{Group}
 use Rattle.register_search.specs.declared.class.Group.TheVariants.{Absent, Exclusive, Numbered}
@@ -97,7 +98,7 @@ abbrev choice_at : (ℕ → ℕ) → (ℕ → ℕ → ℕ) → Option Class → 
 choice_at exclusive numbered None k = 0
 choice_at exclusive numbered (Some c) k = choice_in exclusive numbered c.group k
 
-module _ (classes : List Class) (few : HasFewGroups classes) (exclusive : ℕ → ℕ) (placed : IsPlaced Exclusive classes exclusive 0)
+module _ (classes : List Class) (few : AreNumbersBelow classes) (exclusive : ℕ → ℕ) (placed : IsPlaced Exclusive classes exclusive 0)
     (numbered : (m : ℕ) → IsGroup classes (taken_by Exclusive classes exclusive 0) m) where
 
   in_group : Group → ℕ → ℕ
@@ -161,7 +162,7 @@ module _ (classes : List Class) (few : HasFewGroups classes) (exclusive : ℕ �
       ∙ apart k j c d c.group d.group is_c is_d differ refl refl rivals;
   }
 
-pub leading_assigned : (classes : List Class) → HasFewGroups classes → leads_all Exclusive classes (leads_numbered classes) 0 ≡ true → HasAssignment classes
+pub leading_assigned : (classes : List Class) → AreNumbersBelow classes → leads_all Exclusive classes (leads_numbered classes) 0 ≡ true → HasAssignment classes
 leading_assigned classes few h =
     let f = found Exclusive classes (leads_numbered classes) 0 h in
     (joined classes few f.choice_of f.placed (λ m. group_of classes (taken_by Exclusive classes f.choice_of 0) m f.ends),

@@ -4,3 +4,4 @@ pub mod Placing
 pub mod Joining
 pub mod Narrowing
 pub mod Trying
+pub mod FewGroups

@@ -2,7 +2,9 @@
 use Rattle.std.proofs.Common.{◌≡◌, ◌≢◌, ◌⊎◌, inl, inr, ℕ, zero, suc, ◌+◌, ◌<◌, ◌≤◌, List, [], ◌∷◌, length, Bool, true, false, Some, None, slice_get, slice_set, slice_index_or, replicate, bit_and, refl, sym, ap, subst, ◌∙◌, arith}
 use Rattle.std.proofs.lemmas.Bool.{cases_eq}
 use Rattle.std.proofs.lemmas.List.{get_or-set_other, get_or-replicate}
-use Rattle.register_search.specs.Assignment.{registers_of, may_take, takes_registers, are_rivals, IsAssignment, HasAssignment, HasFewGroups, AgreeBelow, IsLeast, with_choice}
+use Rattle.register_search.specs.Assignment.{HasFewGroups}
+use Rattle.register_search.proofs.FewGroups.{few_groups, numbers_below}
+use Rattle.register_search.specs.Assignment.{registers_of, may_take, takes_registers, are_rivals, IsAssignment, HasAssignment, AgreeBelow, IsLeast, with_choice}
 use Rattle.register_search.specs.Settling.{narrowed, IsFirst}
 use Rattle.register_search.specs.declared.class.Group.{Group}
 use Rattle.register_search.specs.declared.class.Group.TheVariants.{Absent, Exclusive, Numbered}
@@ -112,4 +114,5 @@ from_narrowed classes k c choice choice_of is takes below may a = record {
 
 -- groups stay as they are
 pub narrowed_few : (classes : List Class) (k : ℕ) (c : Class) (choice : ℕ) → slice_get classes k ≡ Some c → HasFewGroups classes → HasFewGroups (narrowed classes k c choice)
-narrowed_few classes k c choice is few = λ j d g is_d group. let w = was_class classes k c choice j d is is_d in few j w.before g w.is_before (w.same_group ∙ group)
+narrowed_few classes k c choice is few =
+    few_groups (narrowed classes k c choice) (λ j d g is_d group. let w = was_class classes k c choice j d is is_d in numbers_below classes few j w.before g w.is_before (w.same_group ∙ group))

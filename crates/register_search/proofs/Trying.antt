@@ -3,7 +3,8 @@ use Rattle.std.proofs.Common.{◌≡◌, ◌≢◌, ◌⊎◌, inl, inr, ℕ, ze
 use Rattle.std.proofs.lemmas.Bool.{cases_eq, cases_lt, eq-eqb, ne_eqb}
 use Rattle.std.proofs.lemmas.List.{length-set, set-get_or}
 use Rattle.std.proofs.lemmas.Option.{get_or_from_slice_get, slice_get-get_or}
-use Rattle.register_search.specs.Assignment.{may_take, takes_registers, IsAssignment, HasAssignment, HasFewGroups, AgreeBelow, IsLeast, IsSettled, with_choice}
+use Rattle.register_search.specs.Assignment.{HasFewGroups}
+use Rattle.register_search.specs.Assignment.{may_take, takes_registers, IsAssignment, HasAssignment, AgreeBelow, IsLeast, IsSettled, with_choice}
 use Rattle.register_search.specs.Settling.{narrowed, IsFirst, IsFirstOf}
 use Rattle.register_search.specs.declared.class.Class.{Class}
 use Rattle.register_search.proofs.Narrowing.{slice_get-set_same, slice_get-set_other, into_narrowed, from_narrowed, narrowed_choice, narrowed_few}

@@ -1,5 +1,6 @@
 -- Assignments of registers to classes. There are seven registers, from 0, and a choice is the number of one of the eight sets of them that a class may take.
-use Rattle.std.specs.Prelude.{◌≡◌, ◌≢◌, ℕ, ◌==◌, ◌<◌, ◌≤◌, List, [], ◌∷◌, length, Bool, true, false, Some, slice_get, slice_set, slice_index, slice_index_or, bit_and, replicate}
+use Rattle.std.specs.Prelude.{◌≡◌, ◌≢◌, ℕ, ◌==◌, ◌<◌, ◌≤◌, List, [], ◌∷◌, length, Bool, true, false, IsTrue, nat_lt, Some, slice_get, slice_set, slice_index, slice_index_or, bit_and, replicate}
+use Rattle.std.specs.List.{list_all}
 use Rattle.register_search.specs.declared.class.Group.{Group}
 use Rattle.register_search.specs.declared.class.Group.TheVariants.{Absent, Exclusive, Numbered}
 use Rattle.register_search.specs.declared.class.Class.{Class}
@@ -60,5 +61,10 @@ pub record IsSettled (old new : List Class) : Type 0 where
   pub settled : (k : ℕ) (c : Class) → slice_get old k ≡ Some c → takes_registers c.group ≡ true → slice_get new k ≡ Some (with_choice (choice_of k) c)
 
 -- the numbers of groups are below 32
+abbrev pub is_below_32 : Group → Bool
+is_below_32 Absent = true
+is_below_32 Exclusive = true
+is_below_32 (Numbered number) = nat_lt number 32
+
 abbrev pub HasFewGroups : List Class → Type 0
-HasFewGroups classes = (k : ℕ) (c : Class) (g : ℕ) → slice_get classes k ≡ Some c → c.group ≡ Numbered g → g < 32
+HasFewGroups classes = IsTrue (list_all (λ (c : Class). is_below_32 c.group) classes)

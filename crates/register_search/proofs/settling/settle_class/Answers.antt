@@ -1,5 +1,6 @@
 use Rattle.std.proofs.Common.{◌≡◌, Some, slice_get, slice_set, ap, ◌∙◌, sym, subst, arith, [], ◌+◌, get_or, true, false}
-use Rattle.register_search.specs.Assignment.{HasAssignment, HasFewGroups, with_choice}
+use Rattle.register_search.specs.Assignment.{HasFewGroups}
+use Rattle.register_search.specs.Assignment.{HasAssignment, with_choice}
 use Rattle.register_search.specs.Settling.{narrowed, IsFirstOf}
 use Rattle.register_search.specs.declared.class.Class.{Class}
 use Rattle.register_search.specs.declared.class.Group.TheVariants.{Absent}
