@@ -1,5 +1,5 @@
 -- An assignment of all classes exists exactly where the exclusive ones can be placed so that each numbered group can.
-use Rattle.std.proofs.Common.{min, ◌≡◌, ◌≢◌, ◌⊎◌, inl, inr, ℕ, zero, suc, ◌<◌, ◌==◌, ◌&&◌, List, [], ◌∷◌, Bool, true, false, Option, None, Some, slice_get, bit_and, refl, sym, ap, subst, ◌∙◌, arith}
+use Rattle.std.proofs.Common.{min, ◌≡◌, ◌≢◌, inl, inr, ℕ, ◌<◌, List, true, Option, None, Some, slice_get, bit_and, refl, sym, ap, subst, ◌∙◌, arith}
 use Rattle.std.specs.Int.{bit_at}
 use Rattle.std.proofs.Math.Nat.{zero-min}
 use Rattle.std.proofs.lemmas.Nat.{and_comm}
@@ -11,7 +11,7 @@ use Rattle.register_search.specs.Table.{is_same, leads_all, leads_numbered, alwa
 use Rattle.register_search.specs.declared.class.Group.{Group}
 use Rattle.register_search.specs.declared.class.Group.TheVariants.{Absent, Exclusive, Numbered}
 use Rattle.register_search.specs.declared.class.Class.{Class}
-use Rattle.register_search.proofs.Placing.{IsPlaced, IsFound, IsApart, found, placed_leads, taken_by, taken_apart, apart_from_taken, all_at, all_from}
+use Rattle.register_search.proofs.Placing.{IsPlaced, found, placed_leads, taken_by, taken_apart, apart_from_taken, all_at, all_from}
 
 -- ---- from an assignment
 
@@ -64,14 +64,14 @@ nothing_apart n = same_from_bits (bit_and 0 n) 0 (λ i. bit_at_and 0 n i ∙ ap 
 pub assignment_leads : (classes : List Class) → HasAssignment classes → leads_all Exclusive classes (leads_numbered classes) 0 ≡ true
 assignment_leads classes (choice_of, a) =
     placed_leads Exclusive classes (leads_numbered classes) 0 choice_of (group_placed Exclusive classes choice_of 0 a (λ k c is same. nothing_apart (registers_of (choice_of k))))
-      (all_from 32 (λ number. leads_all (Numbered number) classes always set) each_number)
+    (all_from 32 (λ number. leads_all (Numbered number) classes always set) each_number)
   where
     set : ℕ
     set = taken_by Exclusive classes choice_of 0
 
     clear : (m k : ℕ) (c : Class) → slice_get classes k ≡ Some c → is_same (Numbered m) c.group ≡ true → bit_and set (registers_of (choice_of k)) ≡ 0
     clear m k c is same = apart_from_taken Exclusive classes choice_of 0 (registers_of (choice_of k)) (nothing_apart (registers_of (choice_of k)))
-      (λ j d is_d same_d. a.apart j k d c is_d is (λ e. other_group m c.group (let both : d ≡ c = cc in ap (λ (x : Class). is_same Exclusive x.group) (sym both) ∙ same_d) same)
+        (λ j d is_d same_d. a.apart j k d c is_d is (λ e. other_group m c.group (let both : d ≡ c = cc in ap (λ (x : Class). is_same Exclusive x.group) (sym both) ∙ same_d) same)
         (exclusive_rivals m d.group c.group same_d same))
 
     each_number : (m : ℕ) → m < 32 → leads_all (Numbered m) classes always set ≡ true
@@ -86,8 +86,9 @@ record IsGroup (classes : List Class) (set m : ℕ) : Type 0 where
 
 group_of : (classes : List Class) (set m : ℕ) → leads_numbered classes set ≡ true → IsGroup classes set m
 group_of classes set m h = elim (cases_lt m 32) [
-  inl below ↦ let f = found (Numbered m) classes always set (all_at 32 (λ number. leads_all (Numbered number) classes always set) h m below) in record { choice_of = f.choice_of; placed = λ b. f.placed }
-  | inr above ↦ record { choice_of = λ k. 0; placed = λ b. absurd (omega arith) } ]
+  | inl below ↦ let f = found (Numbered m) classes always set (all_at 32 (λ number. leads_all (Numbered number) classes always set) h m below) in record { choice_of = f.choice_of; placed = λ b. f.placed }
+  | inr above ↦ record { choice_of = λ k. 0; placed = λ b. absurd (omega arith) }
+]
 
 choice_in : (ℕ → ℕ) → (ℕ → ℕ → ℕ) → Group → ℕ → ℕ
 choice_in exclusive numbered Absent k = 0
@@ -100,7 +101,6 @@ choice_at exclusive numbered (Some c) k = choice_in exclusive numbered c.group k
 
 module _ (classes : List Class) (few : AreNumbersBelow classes) (exclusive : ℕ → ℕ) (placed : IsPlaced Exclusive classes exclusive 0)
     (numbered : (m : ℕ) → IsGroup classes (taken_by Exclusive classes exclusive 0) m) where
-
   in_group : Group → ℕ → ℕ
   in_group g k = choice_in exclusive (λ m. (numbered m).choice_of) g k
 
@@ -158,12 +158,13 @@ module _ (classes : List Class) (few : AreNumbersBelow classes) (exclusive : ℕ
     below = λ k c is takes. subst (λ n. n < 8) (sym (joined_is k c c.group is refl)) (below k c c.group is refl takes);
     taken = λ k c is takes. ap (may_take c) (joined_is k c c.group is refl) ∙ taken k c c.group is refl takes;
     apart = λ k j c d is_c is_d differ rivals. ap (λ n. bit_and (registers_of n) (registers_of (joined j))) (joined_is k c c.group is_c refl)
-      ∙ ap (λ n. bit_and (registers_of (in_group c.group k)) (registers_of n)) (joined_is j d d.group is_d refl)
-      ∙ apart k j c d c.group d.group is_c is_d differ refl refl rivals;
+        ∙ ap (λ n. bit_and (registers_of (in_group c.group k)) (registers_of n)) (joined_is j d d.group is_d refl)
+        ∙ apart k j c d c.group d.group is_c is_d differ refl refl rivals;
   }
 
 pub leading_assigned : (classes : List Class) → AreNumbersBelow classes → leads_all Exclusive classes (leads_numbered classes) 0 ≡ true → HasAssignment classes
 leading_assigned classes few h =
-    let f = found Exclusive classes (leads_numbered classes) 0 h in
-    (joined classes few f.choice_of f.placed (λ m. group_of classes (taken_by Exclusive classes f.choice_of 0) m f.ends),
-      joined_assigns classes few f.choice_of f.placed (λ m. group_of classes (taken_by Exclusive classes f.choice_of 0) m f.ends))
+    let f = found Exclusive classes (leads_numbered classes) 0 h in (
+      joined classes few f.choice_of f.placed (λ m. group_of classes (taken_by Exclusive classes f.choice_of 0) m f.ends),
+      joined_assigns classes few f.choice_of f.placed (λ m. group_of classes (taken_by Exclusive classes f.choice_of 0) m f.ends),
+    )

@@ -1,9 +1,9 @@
 -- A group's classes can be placed exactly where an assignment of them exists.
-use Rattle.std.proofs.Common.{◌≡◌, ◌≢◌, min, max, ◌⊎◌, inl, inr, ℕ, zero, suc, ◌<◌, ◌==◌, ◌&&◌, List, [], ◌∷◌, Bool, true, false, None, Some, slice_get, slice_index_or, bit_and, bit_or, refl, sym, ap, subst, ◌∙◌, arith, if◌then◌else◌}
+use Rattle.std.proofs.Common.{◌≡◌, ◌≢◌, min, max, inl, inr, ℕ, zero, suc, ◌<◌, ◌&&◌, List, [], ◌∷◌, Bool, true, false, Some, slice_get, slice_index_or, bit_and, bit_or, refl, sym, ap, ◌∙◌, arith, if◌then◌else◌}
 use Rattle.std.proofs.lemmas.Nat.{and_or_apart, and_comm}
 use Rattle.std.proofs.Math.Nat.{max_comm}
 use Rattle.std.proofs.lemmas.Nat.Bits.{bit_at_and, bit_at_or, bit_at-zero, same_from_bits}
-use Rattle.std.proofs.lemmas.Bool.{and_parts, and_from, or_cases, or_left, or_right, eqb-true, eq-eqb, cases_Bool, cases_eq}
+use Rattle.std.proofs.lemmas.Bool.{and_parts, and_from, or_cases, or_left, or_right, eqb-true, eq-eqb, cases_eq}
 use Rattle.std.specs.Int.{bit_at}
 use Rattle.register_search.specs.Assignment.{registers_of, may_take}
 use Rattle.register_search.specs.Table.{are_apart, some_below, all_below, leads_by, leads, is_same, through, leads_all}
@@ -19,22 +19,25 @@ some_of : (n : ℕ) (test : ℕ → Bool) → some_below n test ≡ true → Wit
 unfolding some_below
 some_of zero test h = cc
 some_of (suc n) test h = elim (or_cases (some_below n test) (test n) h) [
-  inl before ↦ let w = some_of n test before in record { it = w.it; below = let b = w.below in omega arith; passes = w.passes }
-  | inr here ↦ record { it = n; below = omega arith; passes = here } ]
+  | inl before ↦ let w = some_of n test before in record { it = w.it; below = let b = w.below in omega arith; passes = w.passes }
+  | inr here ↦ record { it = n; below = omega arith; passes = here }
+]
 
 some_from : (n : ℕ) (test : ℕ → Bool) (k : ℕ) → k < n → test k ≡ true → some_below n test ≡ true
 unfolding some_below
 some_from zero test k lt h = absurd (omega arith)
 some_from (suc n) test k lt h = elim (cases_eq k n) [
-  inl same ↦ or_right (some_below n test) (test n) (ap test (sym same) ∙ h)
-  | inr other ↦ or_left (some_below n test) (test n) (some_from n test k (omega arith) h) ]
+  | inl same ↦ or_right (some_below n test) (test n) (ap test (sym same) ∙ h)
+  | inr other ↦ or_left (some_below n test) (test n) (some_from n test k (omega arith) h)
+]
 
 pub all_at : (n : ℕ) (test : ℕ → Bool) → all_below n test ≡ true → (k : ℕ) → k < n → test k ≡ true
 unfolding all_below
 all_at zero test h k lt = absurd (omega arith)
 all_at (suc n) test h k lt = elim (cases_eq k n) [
-  inl same ↦ ap test same ∙ (and_parts (all_below n test) (test n) h).1
-  | inr other ↦ all_at n test (and_parts (all_below n test) (test n) h).0 k (omega arith) ]
+  | inl same ↦ ap test same ∙ (and_parts (all_below n test) (test n) h).1
+  | inr other ↦ all_at n test (and_parts (all_below n test) (test n) h).0 k (omega arith)
+]
 
 pub all_from : (n : ℕ) (test : ℕ → Bool) → ((k : ℕ) → k < n → test k ≡ true) → all_below n test ≡ true
 unfolding all_below
@@ -48,9 +51,9 @@ least_zero a m n h = omega arith
 pub union_apart : (a m n : ℕ) → bit_and (bit_or a m) n ≡ 0 → (bit_and a n ≡ 0) × (bit_and m n ≡ 0)
 union_apart a m n h =
     let left : bit_and a n ≡ 0 = same_from_bits (bit_and a n) 0 (λ i. bit_at_and a n i ∙ least_zero (bit_at a i) (bit_at m i) (bit_at n i)
-      (ap (λ x. min x (bit_at n i)) (sym (bit_at_or a m i)) ∙ sym (bit_at_and (bit_or a m) n i) ∙ ap (λ x. bit_at x i) h ∙ bit_at-zero i) ∙ sym (bit_at-zero i)) in
+    (ap (λ x. min x (bit_at n i)) (sym (bit_at_or a m i)) ∙ sym (bit_at_and (bit_or a m) n i) ∙ ap (λ x. bit_at x i) h ∙ bit_at-zero i) ∙ sym (bit_at-zero i)) in
     let right : bit_and m n ≡ 0 = same_from_bits (bit_and m n) 0 (λ i. bit_at_and m n i ∙ least_zero (bit_at m i) (bit_at a i) (bit_at n i)
-      (ap (λ x. min x (bit_at n i)) (max_comm (bit_at m i) (bit_at a i) ∙ sym (bit_at_or a m i)) ∙ sym (bit_at_and (bit_or a m) n i) ∙ ap (λ x. bit_at x i) h ∙ bit_at-zero i) ∙ sym (bit_at-zero i)) in
+    (ap (λ x. min x (bit_at n i)) (max_comm (bit_at m i) (bit_at a i) ∙ sym (bit_at_or a m i)) ∙ sym (bit_at_and (bit_or a m) n i) ∙ ap (λ x. bit_at x i) h ∙ bit_at-zero i) ∙ sym (bit_at-zero i)) in
     (left, right)
 
 -- the assignment of the classes behind the first
@@ -85,7 +88,7 @@ unfolding taken_by
 apart_from_taken group [] choice_of set n clear each = clear
 apart_from_taken group (c ∷ cs) choice_of set n clear each =
     joined_apart (is_same group c.group) (taken_by group cs (behind choice_of) set) (choice_of 0) n
-      (apart_from_taken group cs (behind choice_of) set n clear (λ k d. each (suc k) d)) (each 0 c refl)
+    (apart_from_taken group cs (behind choice_of) set n clear (λ k d. each (suc k) d)) (each 0 c refl)
 
 split_apart : (b : Bool) (a m n : ℕ) → bit_and (joined_if b a m) n ≡ 0 → (bit_and a n ≡ 0) × (b ≡ true → bit_and (registers_of m) n ≡ 0)
 split_apart true a m n h = let both = union_apart a (registers_of m) n h in (both.0, λ e. both.1)
@@ -205,7 +208,7 @@ leads_from : (choices : List Bool) (wanted : ℕ → Bool) (set choice : ℕ) �
 unfolding leads
 leads_from choices wanted set choice below taken apart ends =
     some_from 8 (λ k. slice_index_or choices k false && leads_by k wanted set) choice below
-      (and_from (slice_index_or choices choice false) (leads_by choice wanted set) taken (and_from (are_apart set (registers_of choice)) (wanted (bit_or set (registers_of choice))) (eq-eqb _ _ apart) ends))
+    (and_from (slice_index_or choices choice false) (leads_by choice wanted set) taken (and_from (are_apart set (registers_of choice)) (wanted (bit_or set (registers_of choice))) (eq-eqb _ _ apart) ends))
 
 pub placed_leads : (group : Group) (classes : List Class) (wanted : ℕ → Bool) (set : ℕ) (choice_of : ℕ → ℕ) → IsPlaced group classes choice_of set
     → wanted (taken_by group classes choice_of set) ≡ true → leads_all group classes wanted set ≡ true
@@ -221,6 +224,6 @@ placed_leads group (c ∷ cs) wanted set choice_of p ends =
     through_first true e =
         ap (λ b. if b then leads c.choices wanted rest else wanted rest) e
         ∙ leads_from c.choices wanted rest (choice_of 0) (p.below 0 c refl e) (p.taken 0 c refl e)
-          (apart_from_taken group cs (behind choice_of) set (registers_of (choice_of 0)) (p.clear 0 c refl e) (λ k d is same. p.apart (suc k) 0 d c is refl (λ s. cc) same e))
-          (ap (λ b. wanted (joined_if b rest (choice_of 0))) (sym e) ∙ ends)
+        (apart_from_taken group cs (behind choice_of) set (registers_of (choice_of 0)) (p.clear 0 c refl e) (λ k d is same. p.apart (suc k) 0 d c is refl (λ s. cc) same e))
+        (ap (λ b. wanted (joined_if b rest (choice_of 0))) (sym e) ∙ ends)
     through_first false e = ap (λ b. if b then leads c.choices wanted rest else wanted rest) e ∙ (ap (λ b. wanted (joined_if b rest (choice_of 0))) (sym e) ∙ ends)

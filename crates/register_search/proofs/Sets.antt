@@ -1,12 +1,12 @@
 -- Sets of registers and tables of them, bit by bit.
 use Rattle.std.proofs.Common.{◌≡◌, ℕ, zero, suc, ◌+◌, ◌/◌, ◌%◌, ◌^◌, ◌<◌, ◌==◌, ◌&&◌, ◌||◌, min, max, Bool, true, false, bit_and, bit_or, slice_index, [], ◌∷◌, refl, sym, ap, ◌∙◌, add-one, arith}
 use Rattle.std.specs.Int.{bit_at}
-use Rattle.std.proofs.lemmas.Nat.{shr-shr, or_disjoint, and_or_apart, and_comm}
-use Rattle.std.proofs.lemmas.Nat.Bits.{bit_at_and, bit_at_or, bit_at-lt, bit_at-zero, same_from_bits}
-use Rattle.std.proofs.lemmas.Bool.{agree_below, agree_below_at, eqb-true, eq-eqb, cases_Bool, and_parts}
+use Rattle.std.proofs.lemmas.Nat.{shr-shr, or_disjoint}
+use Rattle.std.proofs.lemmas.Nat.Bits.{bit_at_and, bit_at_or, bit_at-lt}
+use Rattle.std.proofs.lemmas.Bool.{agree_below, agree_below_at, eqb-true}
 use Rattle.std.proofs.Math.Bool.{and-true, and-false, true-and, false-and, or-false}
 use Rattle.register_search.specs.Assignment.{registers_of}
-use Rattle.register_search.specs.Table.{are_apart, some_below, all_below}
+use Rattle.register_search.specs.Table.{are_apart, some_below}
 
 min_is_one : (x y : ℕ) → x < 2 → y < 2 → (min x y == 1) ≡ (x == 1 && y == 1)
 min_is_one zero zero a b = refl

@@ -1,11 +1,11 @@
 -- The choices of one class tried in order, and the classes settled in order.
-use Rattle.std.proofs.Common.{◌≡◌, ◌≢◌, ◌⊎◌, inl, inr, ℕ, zero, suc, ◌+◌, ◌<◌, ◌≤◌, ◌==◌, List, [], ◌∷◌, length, Bool, true, false, Some, None, slice_get, slice_set, get_or, refl, sym, ap, subst, ◌∙◌, arith, if◌then◌else◌}
+use Rattle.std.proofs.Common.{◌≡◌, inl, inr, ℕ, zero, suc, ◌+◌, ◌<◌, ◌≤◌, ◌==◌, List, [], ◌∷◌, length, Bool, true, false, Some, slice_get, slice_set, get_or, refl, sym, ap, subst, ◌∙◌, arith, if◌then◌else◌}
 use Rattle.std.proofs.lemmas.Bool.{cases_eq, cases_lt, eq-eqb, ne_eqb}
 use Rattle.std.proofs.lemmas.List.{length-set, set-get_or}
 use Rattle.std.proofs.lemmas.Option.{get_or_from_slice_get, slice_get-get_or}
 use Rattle.register_search.specs.Assignment.{HasFewGroups}
-use Rattle.register_search.specs.Assignment.{may_take, takes_registers, IsAssignment, HasAssignment, AgreeBelow, IsLeast, IsSettled, with_choice}
-use Rattle.register_search.specs.Settling.{narrowed, IsFirst, IsFirstOf}
+use Rattle.register_search.specs.Assignment.{may_take, takes_registers, IsAssignment, HasAssignment, AgreeBelow, IsSettled, with_choice}
+use Rattle.register_search.specs.Settling.{narrowed, IsFirstOf}
 use Rattle.register_search.specs.declared.class.Class.{Class}
 use Rattle.register_search.proofs.Narrowing.{slice_get-set_same, slice_get-set_other, into_narrowed, from_narrowed, narrowed_choice, narrowed_few}
 
@@ -26,20 +26,29 @@ refused_more : (old : List Class) (k choice : ℕ) (c : Class)
     → (may_take c choice ≡ true → HasAssignment (narrowed old k c choice) → ⊥)
     → (other : ℕ) → other < choice + 1 → may_take c other ≡ true → HasAssignment (narrowed old k c other) → ⊥
 refused_more old k choice c before here other lt may there = elim (cases_eq other choice) [
-  inl same ↦ here (ap (may_take c) (sym same) ∙ may) (subst (λ n. HasAssignment (narrowed old k c n)) same there)
-  | inr differ ↦ before other (omega arith) may there ]
+  | inl same ↦ here (ap (may_take c) (sym same) ∙ may) (subst (λ n. HasAssignment (narrowed old k c n)) same there)
+  | inr differ ↦ before other (omega arith) may there
+]
 
 pub trying_skips : (old now : List Class) (k choice : ℕ) (c : Class) → IsTrying old now k c choice → may_take c choice ≡ false → IsTrying old now k c (choice + 1)
-trying_skips old now k choice c t may = record { is_class = t.is_class; tried = t.tried; is_now = t.is_now;
-  refused = refused_more old k choice c t.refused (λ yes there. let wrong : true ≡ false = sym yes ∙ may in cc) }
+trying_skips old now k choice c t may = record {
+  is_class = t.is_class;
+  tried = t.tried;
+  is_now = t.is_now;
+  refused = refused_more old k choice c t.refused (λ yes there. let wrong : true ≡ false = sym yes ∙ may in cc);
+}
 
 pub now_narrowed : (old now : List Class) (k choice : ℕ) (c : Class) → IsTrying old now k c choice → slice_set now k (with_choice choice c) ≡ narrowed old k c choice
 now_narrowed old now k choice c t = ap (λ l. slice_set l k (with_choice choice c)) t.is_now ∙ set-set old k t.tried (with_choice choice c)
 
 pub trying_refuses : (old now : List Class) (k choice : ℕ) (c : Class) → IsTrying old now k c choice → (HasAssignment (slice_set now k (with_choice choice c)) → ⊥)
     → IsTrying old (slice_set now k (with_choice choice c)) k c (choice + 1)
-trying_refuses old now k choice c t none = record { is_class = t.is_class; tried = with_choice choice c; is_now = now_narrowed old now k choice c t;
-  refused = refused_more old k choice c t.refused (λ yes there. none (subst HasAssignment (sym (now_narrowed old now k choice c t)) there)) }
+trying_refuses old now k choice c t none = record {
+  is_class = t.is_class;
+  tried = with_choice choice c;
+  is_now = now_narrowed old now k choice c t;
+  refused = refused_more old k choice c t.refused (λ yes there. none (subst HasAssignment (sym (now_narrowed old now k choice c t)) there));
+}
 
 pub trying_ends : (old now : List Class) (k choice : ℕ) (c : Class) → IsTrying old now k c choice → choice < 8 → may_take c choice ≡ true → HasAssignment (slice_set now k (with_choice choice c))
     → IsFirstOf old (slice_set now k (with_choice choice c)) k
@@ -88,8 +97,9 @@ settling_begun classes few there = record {
 one_more_agrees : (classes : List Class) (k : ℕ) (one other : ℕ → ℕ) → AgreeBelow classes k one other → ((c : Class) → slice_get classes k ≡ Some c → takes_registers c.group ≡ true → one k ≡ other k)
     → AgreeBelow classes (k + 1) one other
 one_more_agrees classes k one other before here i c lt is takes = elim (cases_eq i k) [
-  inl same ↦ ap one same ∙ here c (ap (slice_get classes) (sym same) ∙ is) takes ∙ ap other (sym same)
-  | inr differ ↦ before i c (omega arith) is takes ]
+  | inl same ↦ ap one same ∙ here c (ap (slice_get classes) (sym same) ∙ is) takes ∙ ap other (sym same)
+  | inr differ ↦ before i c (omega arith) is takes
+]
 
 -- a class that takes no register
 pub settling_passes : (old now : List Class) (k : ℕ) → IsSettling old now k → ((c : Class) → slice_get now k ≡ Some c → takes_registers c.group ≡ false) → IsSettling old now (k + 1)
@@ -99,14 +109,16 @@ settling_passes old now k s absent = record {
   size = s.size;
   rest = λ i le. s.rest i (omega arith);
   settled = λ i c lt is takes. elim (cases_eq i k) [
-    inl same ↦ absurd (never c (ap (slice_get old) (sym same) ∙ is) takes)
-    | inr differ ↦ s.settled i c (omega arith) is takes ];
+    | inl same ↦ absurd (never c (ap (slice_get old) (sym same) ∙ is) takes)
+    | inr differ ↦ s.settled i c (omega arith) is takes
+  ];
   there = s.there;
   wider = λ other a. let w = s.wider other a in (w.0, one_more_agrees old k other s.choice_of w.1 (λ c is takes. absurd (never c is takes)));
   narrower = λ other a agree. s.narrower other a (λ i c lt. agree i c (omega arith));
   least = λ other a i c lt is takes agree. elim (cases_eq i k) [
-    inl same ↦ absurd (never c (ap (slice_get old) (sym same) ∙ is) takes)
-    | inr differ ↦ s.least other a i c (omega arith) is takes agree ];
+    | inl same ↦ absurd (never c (ap (slice_get old) (sym same) ∙ is) takes)
+    | inr differ ↦ s.least other a i c (omega arith) is takes agree
+  ];
 }
   where
     never : (c : Class) → slice_get old k ≡ Some c → takes_registers c.group ≡ true → ⊥
@@ -143,7 +155,7 @@ settling_settles old now new k s all_take f = subst (λ cs. IsSettling old cs (k
 
     agree_after : (other : ℕ → ℕ) → AgreeBelow old k other s.choice_of → other k ≡ f.choice → AgreeBelow old (k + 1) other now'
     agree_after other agree here = one_more_agrees old k other now' (λ j c lt is takes. agree j c lt is takes ∙ sym (updated_there s.choice_of k f.choice j (λ e. omega arith)))
-      (λ c is takes. here ∙ sym (updated_here s.choice_of k f.choice k refl))
+        (λ c is takes. here ∙ sym (updated_here s.choice_of k f.choice k refl))
 
     made : IsSettling old (narrowed now k f.class f.choice) (k + 1)
     made = record {
@@ -152,21 +164,23 @@ settling_settles old now new k s all_take f = subst (λ cs. IsSettling old cs (k
       size = length-set now k (with_choice f.choice f.class) ∙ s.size;
       rest = λ i le. slice_get-set_other now k i (with_choice f.choice f.class) (λ e. omega arith) ∙ s.rest i (omega arith);
       settled = λ i c lt is takes. elim (cases_eq i k) [
-        inl same ↦ ap (slice_get (narrowed now k f.class f.choice)) same ∙ slice_get-set_same now k f.class (with_choice f.choice f.class) f.is_class
-          ∙ ap (λ x. Some (with_choice f.choice x)) (sym (class_of c (ap (slice_get old) (sym same) ∙ is))) ∙ ap (λ n. Some (with_choice n c)) (sym (updated_here s.choice_of k f.choice i same))
+        | inl same ↦ ap (slice_get (narrowed now k f.class f.choice)) same ∙ slice_get-set_same now k f.class (with_choice f.choice f.class) f.is_class
+            ∙ ap (λ x. Some (with_choice f.choice x)) (sym (class_of c (ap (slice_get old) (sym same) ∙ is))) ∙ ap (λ n. Some (with_choice n c)) (sym (updated_here s.choice_of k f.choice i same))
         | inr differ ↦ slice_get-set_other now k i (with_choice f.choice f.class) differ ∙ s.settled i c (omega arith) is takes
-          ∙ ap (λ n. Some (with_choice n c)) (sym (updated_there s.choice_of k f.choice i differ)) ];
+            ∙ ap (λ n. Some (with_choice n c)) (sym (updated_there s.choice_of k f.choice i differ))
+      ];
       there = f.first.there;
       wider = λ other a.
-        let w = s.wider other (from_narrowed now k f.class f.choice other f.is_class takes f.first.below f.first.taken a) in
-        (w.0, agree_after other w.1 (narrowed_choice now k f.class f.choice other f.is_class takes f.first.below a));
+          let w = s.wider other (from_narrowed now k f.class f.choice other f.is_class takes f.first.below f.first.taken a) in
+          (w.0, agree_after other w.1 (narrowed_choice now k f.class f.choice other f.is_class takes f.first.below a));
       narrower = λ other a agree.
-        let before = s.narrower other a (agree_before k (omega arith) other (λ j c lt. agree j c (omega arith))) in
-        let here : other k ≡ f.choice = agree k f.class (omega arith) in_old takes ∙ updated_here s.choice_of k f.choice k refl in
-        subst (λ n. IsAssignment (narrowed now k f.class n) other) here (into_narrowed now k f.class other f.is_class takes before);
+          let before = s.narrower other a (agree_before k (omega arith) other (λ j c lt. agree j c (omega arith))) in
+          let here : other k ≡ f.choice = agree k f.class (omega arith) in_old takes ∙ updated_here s.choice_of k f.choice k refl in
+          subst (λ n. IsAssignment (narrowed now k f.class n) other) here (into_narrowed now k f.class other f.is_class takes before);
       least = λ other a i c lt is takes_c agree. elim (cases_eq i k) [
-        inl same ↦ least_here other a c i same is agree
-        | inr differ ↦ subst (λ n. n ≤ other i) (sym (updated_there s.choice_of k f.choice i differ)) (s.least other a i c (omega arith) is takes_c (agree_before i (omega arith) other agree)) ];
+        | inl same ↦ least_here other a c i same is agree
+        | inr differ ↦ subst (λ n. n ≤ other i) (sym (updated_there s.choice_of k f.choice i differ)) (s.least other a i c (omega arith) is takes_c (agree_before i (omega arith) other agree))
+      ];
     }
       where
         least_here : (other : ℕ → ℕ) → IsAssignment old other → (c : Class) (i : ℕ) → i ≡ k → slice_get old i ≡ Some c → AgreeBelow old i other now' → now' i ≤ other i
@@ -174,8 +188,9 @@ settling_settles old now new k s all_take f = subst (λ cs. IsSettling old cs (k
             let before = s.narrower other a (agree_before k (omega arith) other (subst (λ n. AgreeBelow old n other now') same agree)) in
             let narrow = into_narrowed now k f.class other f.is_class takes before in
             let le : f.choice ≤ other k = elim (cases_lt (other k) f.choice) [
-              inl lt ↦ absurd (f.first.least (other k) lt (before.taken k f.class f.is_class takes) (other, narrow))
-              | inr le ↦ le ] in
+              | inl lt ↦ absurd (f.first.least (other k) lt (before.taken k f.class f.is_class takes) (other, narrow))
+              | inr le ↦ le
+            ] in
             let now_is = updated_here s.choice_of k f.choice i same in
             let other_is : other k ≡ other i = ap other (sym same) in
             omega arith
@@ -188,10 +203,13 @@ slice_get-inside (y ∷ xs) (suc i) x h = let lt = slice_get-inside xs i x h in 
 pub settling_done : (old now : List Class) (k : ℕ) → IsSettling old now k → length old ≤ k → IsSettled old now
 settling_done old now k s all = record {
   choice_of = s.there.0;
-  least = record { assigned = w.0; least = λ other a i c is takes agree.
-    let here = w.1 i c (inside i c is) is takes in
-    let le = s.least other a i c (inside i c is) is takes (λ j d lt is_d takes_d. agree j d lt is_d takes_d ∙ w.1 j d (inside j d is_d) is_d takes_d) in
-    omega arith };
+  least = record {
+    assigned = w.0;
+    least = λ other a i c is takes agree.
+        let here = w.1 i c (inside i c is) is takes in
+        let le = s.least other a i c (inside i c is) is takes (λ j d lt is_d takes_d. agree j d lt is_d takes_d ∙ w.1 j d (inside j d is_d) is_d takes_d) in
+        omega arith;
+  };
   size = s.size;
   settled = λ i c is takes. s.settled i c (inside i c is) is takes ∙ ap (λ n. Some (with_choice n c)) (sym (w.1 i c (inside i c is) is takes));
 }

@@ -1,5 +1,5 @@
 -- Choices settled one class after the other.
-use Rattle.std.specs.Prelude.{◌≡◌, ℕ, ◌<◌, List, Bool, true, Some, slice_get, slice_set}
+use Rattle.std.specs.Prelude.{◌≡◌, ℕ, ◌<◌, List, true, Some, slice_get, slice_set}
 use Rattle.register_search.specs.Assignment.{may_take, with_choice, HasAssignment}
 use Rattle.register_search.specs.declared.class.Class.{Class}
 

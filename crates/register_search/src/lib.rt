@@ -12,3 +12,6 @@ mod table;
 pub use class::{CHOICES, Class, Group, PAIR};
 pub use search::has_assignment;
 pub use settling::settle;
+
+#[cfg(test)]
+mod tests;

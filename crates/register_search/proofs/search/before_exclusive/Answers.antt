@@ -11,7 +11,8 @@ loop-class-init c = λ set s. refl
 
 pub loop-class-preserved : goal.loop-class-preserved
 loop-class-preserved c = elim c.match-class.branch [
-  in-Exclusive w ↦ λ set s. ap (λ t. holds t set) w.table-is ∙ loop_grown Exclusive c.args.classes.now c.loop-class.class-index _ (holds c.args.wanted) (holds c.loop-class.table) (holds w.before-table.result)
+  | in-Exclusive w ↦ λ set s. ap (λ t. holds t set) w.table-is ∙ loop_grown Exclusive c.args.classes.now c.loop-class.class-index _ (holds c.args.wanted) (holds c.loop-class.table) (holds w.before-table.result)
       c.loop-class-test.true (ap (is_same Exclusive) w.in-Exclusive.is) c.loop-class.invariant w.before-table.ensures set s
   | in_default w ↦ λ set s. ap (λ t. holds t set) w.table-is ∙ loop_kept Exclusive c.args.classes.now c.loop-class.class-index _ (holds c.args.wanted) (holds c.loop-class.table)
-      c.loop-class-test.true (not_exclusive _ w.in_default.not-Exclusive) c.loop-class.invariant set s ]
+      c.loop-class-test.true (not_exclusive _ w.in_default.not-Exclusive) c.loop-class.invariant set s
+]

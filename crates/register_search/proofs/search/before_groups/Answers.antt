@@ -18,9 +18,10 @@ bounds-tables-number-in-Numbered c =
 
 pub loop-class-preserved : goal.loop-class-preserved
 loop-class-preserved c = elim c.match-class.branch [
-  in-Numbered w ↦ subst (λ ts. AreGroupTables (take (c.loop-class.class-index + 1) c.args.classes.now) ts) (sym w.tables-is)
-    (group_tables_grown c.args.classes.now c.loop-class.tables c.loop-class.class-index w.in-Numbered.number _ w.before-in-Numbered.result c.loop-class-test.true w.in-Numbered.is
+  | in-Numbered w ↦ subst (λ ts. AreGroupTables (take (c.loop-class.class-index + 1) c.args.classes.now) ts) (sym w.tables-is)
+      (group_tables_grown c.args.classes.now c.loop-class.tables c.loop-class.class-index w.in-Numbered.number _ w.before-in-Numbered.result c.loop-class-test.true w.in-Numbered.is
       (numbers_below c.args.classes.now c.requires c.loop-class.class-index _ w.in-Numbered.number (slice_get-get_or c.args.classes.now c.loop-class.class-index _ c.loop-class-test.true) w.in-Numbered.is)
       w.before-in-Numbered.ensures c.loop-class.invariant)
   | in_default w ↦ subst (λ ts. AreGroupTables (take (c.loop-class.class-index + 1) c.args.classes.now) ts) (sym w.tables-is)
-    (group_tables_kept c.args.classes.now c.loop-class.tables c.loop-class.class-index _ c.loop-class-test.true w.in_default.not-Numbered c.loop-class.invariant) ]
+      (group_tables_kept c.args.classes.now c.loop-class.tables c.loop-class.class-index _ c.loop-class-test.true w.in_default.not-Numbered c.loop-class.invariant)
+]

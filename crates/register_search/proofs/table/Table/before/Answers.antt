@@ -1,4 +1,4 @@
-use Rattle.std.proofs.Common.{◌≡◌, ap, ◌∙◌, ◌==◌, ◌&&◌, arith, Bool, false, slice_index_or}
+use Rattle.std.proofs.Common.{◌≡◌, ap, ◌∙◌, ◌==◌, ◌&&◌, arith, false, slice_index_or}
 use Rattle.std.proofs.lemmas.Nat.Bits.{bit_at-zero}
 use Rattle.register_search.specs.Table.{holds, some_below, leads, leads_by}
 use Rattle.register_search.proofs.Sets.{one_more, one_less}
@@ -7,9 +7,10 @@ use Rattle.register_search.proofs.table.Table.before.Goals.{then-choices-choice,
 
 pub loop-choice-preserved : goal.loop-choice-preserved
 loop-choice-preserved c = λ set s. elim c.if-choices-choice.branch [
-  then-choices-choice w ↦ ap (λ t. holds t set) w.table-is ∙ one_more c.loop-choice.choice (λ k. slice_index_or c.args.choices k false) (λ k. leads_by k (holds c.args.self) set)
+  | then-choices-choice w ↦ ap (λ t. holds t set) w.table-is ∙ one_more c.loop-choice.choice (λ k. slice_index_or c.args.choices k false) (λ k. leads_by k (holds c.args.self) set)
       _ _ _ (c.loop-choice.invariant set s) w.if-choices-choice.true (w.before_choice.ensures set s) (w.or-table.ensures set)
-  | else-choices-choice w ↦ ap (λ t. holds t set) w.table-is ∙ one_less c.loop-choice.choice (λ k. slice_index_or c.args.choices k false) (λ k. leads_by k (holds c.args.self) set) _ (c.loop-choice.invariant set s) w.if-choices-choice.false ]
+  | else-choices-choice w ↦ ap (λ t. holds t set) w.table-is ∙ one_less c.loop-choice.choice (λ k. slice_index_or c.args.choices k false) (λ k. leads_by k (holds c.args.self) set) _ (c.loop-choice.invariant set s) w.if-choices-choice.false
+]
 
 pub returns : goal.returns
 unfolding leads
