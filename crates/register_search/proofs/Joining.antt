@@ -58,7 +58,7 @@ group_placed group classes choice_of set a clear = record {
   apart = λ k j c d is_c is_d differ same_c same_d. a.apart k j c d is_c is_d differ (same_rivals group c.group d.group same_c same_d);
 }
 
-nothing_apart : (n : ℕ) → bit_and 0 n ≡ 0
+pub nothing_apart : (n : ℕ) → bit_and 0 n ≡ 0
 nothing_apart n = same_from_bits (bit_and 0 n) 0 (λ i. bit_at_and 0 n i ∙ ap (λ x. min x (bit_at n i)) (bit_at-zero i) ∙ zero-min (bit_at n i) ∙ sym (bit_at-zero i))
 
 pub assignment_leads : (classes : List Class) → HasAssignment classes → leads_all Exclusive classes (leads_numbered classes) 0 ≡ true

@@ -5,3 +5,4 @@ pub mod Joining
 pub mod Narrowing
 pub mod Trying
 pub mod FewGroups
+pub mod OneChoice

@@ -21,7 +21,7 @@ pub record IsTrying (old now : List Class) (k : ℕ) (c : Class) (choice : ℕ) 
   pub is_now : now ≡ slice_set old k tried
   pub refused : (other : ℕ) → other < choice → may_take c other ≡ true → HasAssignment (narrowed old k c other) → ⊥
 
-refused_more : (old : List Class) (k choice : ℕ) (c : Class)
+pub refused_more : (old : List Class) (k choice : ℕ) (c : Class)
     → ((other : ℕ) → other < choice → may_take c other ≡ true → HasAssignment (narrowed old k c other) → ⊥)
     → (may_take c choice ≡ true → HasAssignment (narrowed old k c choice) → ⊥)
     → (other : ℕ) → other < choice + 1 → may_take c other ≡ true → HasAssignment (narrowed old k c other) → ⊥

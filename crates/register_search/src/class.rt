@@ -1,6 +1,7 @@
-ghost use Rattle.std.specs.Prelude.{◌≡◌, ◌<◌, ◌==◌, true};
+ghost use Rattle.std.specs.Prelude.{◌≡◌, ◌<◌, IfSome};
 ghost use Rattle.std.specs.List.{position_from};
-ghost use Rattle.register_search.specs.Assignment.{takes_registers, with_choice};
+ghost use Rattle.register_search.specs.Assignment.{are_rivals, takes_registers, with_choice};
+ghost use Rattle.register_search.specs.Settling.{IsOnlyChoice};
 
 /// How many choices there are: the seven registers, each by its number, and the pair.
 pub const CHOICES: usize = 8;
@@ -17,6 +18,19 @@ pub enum Group {
     Exclusive,
     /// The classes of the same number, and the exclusive ones. The number is below 32.
     Numbered(u8),
+}
+
+impl Group {
+    /// Whether classes of the two groups must be apart.
+    pub(crate) fn is_rival(self, other: Group) -> bool
+        ensures { result ≡ are_rivals self other }
+    {
+        match (self, other) {
+            (Group::Absent, _) | (_, Group::Absent) => false,
+            (Group::Numbered(one), Group::Numbered(other)) => one == other,
+            _ => true,
+        }
+    }
 }
 
 /// Something that is to have a register or the pair.
@@ -43,6 +57,23 @@ impl Class {
         let mut choices = [false; CHOICES];
         choices[choice] = true;
         Class { choices, ..self }
+    }
+
+    /// The choice where the class may take but one.
+    pub(crate) fn only_choice(&self) -> Option<usize>
+        ensures { IfSome result (λ choice. IsOnlyChoice self.now choice) }
+    {
+        let mut only = None;
+        for choice in 0..CHOICES {
+            if !self.choices[choice] {
+                continue;
+            }
+            if only.is_some() {
+                return None;
+            }
+            only = Some(choice);
+        }
+        only
     }
 
     /// The first choice that the class may take.

@@ -1,10 +1,19 @@
 ghost use Rattle.std.specs.Prelude.{◌≡◌, ℕ, ◌<◌, ◌&&◌, ◌||◌, length, slice_index_or, IsTrue, true};
+ghost use Rattle.register_search.specs.Assignment.{registers_of};
 ghost use Rattle.register_search.specs.Table.{holds, leads, leads_by, always, all_below};
 
 use crate::CHOICES;
 
 /// The registers of each choice, bit n standing for register n.
 const REGISTERS: [u32; CHOICES] = [1, 2, 4, 8, 16, 32, 64, 9];
+
+/// The registers that a choice takes, bit n standing for register n.
+pub(crate) fn registers_of(choice: usize) -> u32
+    requires { choice < 8 }
+    ensures { result ≡ registers_of choice }
+{
+    REGISTERS[choice]
+}
 
 /// For each choice the sets of registers that are apart from it, bit n standing for the set n.
 const APART: [u128; CHOICES] = [

@@ -1,4 +1,4 @@
-use Rattle.std.proofs.Common.{◌≡◌, slice_set, ap, ◌∙◌, sym, subst, [], ◌+◌, get_or, true, false}
+use Rattle.std.proofs.Common.{bit_and, ◌≡◌, slice_set, ap, ◌∙◌, sym, subst, [], ◌+◌, get_or, true, false}
 use Rattle.register_search.specs.Assignment.{HasFewGroups}
 use Rattle.register_search.specs.Assignment.{HasAssignment}
 use Rattle.register_search.specs.Settling.{IsFirstOf}
@@ -6,6 +6,7 @@ use Rattle.register_search.specs.declared.class.Class.{Class}
 use Rattle.register_search.specs.declared.class.Group.TheVariants.{Absent}
 use Rattle.register_search.proofs.Narrowing.{narrowed_few}
 use Rattle.register_search.proofs.Trying.{IsTrying, trying_begun, now_narrowed, trying_refuses, trying_ends, trying_succeeds}
+use Rattle.register_search.proofs.OneChoice.{trying_taken}
 use Rattle.register_search.proofs.settling.settle_class.Goals as goal
 
 abbrev blank : Class
@@ -36,3 +37,9 @@ loop-choice-preserved c =
 pub returns : goal.returns
 returns c = absurd (trying_succeeds c.args.classes.now c.loop-choice.classes c.args.k c.loop-choice.choice _ c.loop-choice.invariant c.loop-choice-test.false
     (c.requires.takes _ c.loop-choice.invariant.is_class) c.requires.some)
+
+pub loop-choice-preserved-then-registers_of-taken-ne0 : goal.loop-choice-preserved-then-registers_of-taken-ne0
+loop-choice-preserved-then-registers_of-taken-ne0 c =
+    trying_taken c.args.classes.now c.loop-choice.classes c.args.k c.loop-choice.choice c.taken_by_rivals-taken.result _ c.loop-choice.invariant c.loop-choice-test.true
+    (c.requires.takes _ c.loop-choice.invariant.is_class) c.taken_by_rivals-taken.ensures
+    (λ apart. c.if-registers_of-taken-ne0.true (ap (λ n. bit_and n c.taken_by_rivals-taken.result) c.registers_of.ensures ∙ apart))
