@@ -9,6 +9,7 @@ pub mod Machine
 pub mod Placement
 pub mod Reading
 pub mod Reg
+pub mod Roomy
 pub mod Rows
 pub mod Run
 pub mod Shape

@@ -15,7 +15,7 @@ pub record Witness (n : ℕ) (test : ℕ → Bool) : Type 0 where
   pub below : it < n
   pub passes : test it ≡ true
 
-some_of : (n : ℕ) (test : ℕ → Bool) → some_below n test ≡ true → Witness n test
+pub some_of : (n : ℕ) (test : ℕ → Bool) → some_below n test ≡ true → Witness n test
 unfolding some_below
 some_of zero test h = cc
 some_of (suc n) test h = elim (or_cases (some_below n test) (test n) h) [
@@ -23,7 +23,7 @@ some_of (suc n) test h = elim (or_cases (some_below n test) (test n) h) [
   | inr here ↦ record { it = n; below = omega arith; passes = here }
 ]
 
-some_from : (n : ℕ) (test : ℕ → Bool) (k : ℕ) → k < n → test k ≡ true → some_below n test ≡ true
+pub some_from : (n : ℕ) (test : ℕ → Bool) (k : ℕ) → k < n → test k ≡ true → some_below n test ≡ true
 unfolding some_below
 some_from zero test k lt h = absurd (omega arith)
 some_from (suc n) test k lt h = elim (cases_eq k n) [

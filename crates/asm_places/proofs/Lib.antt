@@ -1,0 +1,5 @@
+pub mod Filling
+pub mod Shaped
+pub mod Choices
+pub mod Rivals
+pub mod Sound
