@@ -66,7 +66,7 @@ false_unless false h = refl
 pub no_common_bit : (j l : ℕ) → j < 8 → l < 8 → ((r : Reg) → takes j r ≡ true → takes l r ≡ true → ⊥) → bit_and (registers_of j) (registers_of l) ≡ 0
 no_common_bit j l below_j below_l none =
     let no : have_common j l ≡ false = each_register (λ r. takes j r && takes l r)
-      (λ r. false_unless (takes j r && takes l r) (λ both. let p = and_parts (takes j r) (takes l r) both in none r p.0 p.1)) in
+    (λ r. false_unless (takes j r && takes l r) (λ both. let p = and_parts (takes j r) (takes l r) both in none r p.0 p.1)) in
     eqb-true _ _ (told j below_j l below_l ∙ ap not no)
 
 -- ---- choices and spots

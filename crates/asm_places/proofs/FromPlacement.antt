@@ -86,8 +86,9 @@ takes_itself r = or_left _ _ (eq-eqb (reg_number r) (reg_number r) refl)
 
 pub takes_no_other : (r q : Reg) → takes (reg_number r) q ≡ true → q ≡ r
 takes_no_other r q h = elim (or_cases (reg_number r == reg_number q) (reg_number r == 7 && (reg_number q == 0 || reg_number q == 3)) h) [
-  inl same ↦ same_reg q r (sym (eqb-true _ _ same))
-  | inr pair ↦ let wrong : false ≡ true = sym (no_pair r) ∙ (and_parts _ _ pair).0 in cc ]
+  | inl same ↦ same_reg q r (sym (eqb-true _ _ same))
+  | inr pair ↦ let wrong : false ≡ true = sym (no_pair r) ∙ (and_parts _ _ pair).0 in cc
+]
 
 -- the operand uses the register that it has to
 abbrev pub IsUsed : Option Reg → Spot → Type 0
@@ -111,7 +112,7 @@ register_taken i o alt asked (Spot.Register r) fits used =
     and_from _ _ (may_from i alt r fits.0 fits.1) (wanted_from asked (reg_number r) (λ q e. ap (takes (reg_number r)) (one_of q r (used q e)) ∙ takes_itself r))
 register_taken i o alt asked Spot.Pair fits used =
     and_from _ _ (and_from _ _ fits.0 (and_from _ _ (not_in i.clobbers Eax (fits.1 Eax (inl refl))) (not_in i.clobbers Edx (fits.1 Edx (inr (inl refl))))))
-      (wanted_from asked 7 (λ q e. elim (used q e) [ inl a ↦ ap (takes 7) a | inr b ↦ elim b [ inl d ↦ ap (takes 7) d | inr n ↦ absurd n ] ]))
+    (wanted_from asked 7 (λ q e. elim (used q e) [ inl a ↦ ap (takes 7) a | inr b ↦ elim b [ inl d ↦ ap (takes 7) d | inr n ↦ absurd n ] ]))
 register_taken i o alt asked (Spot.Memory form) fits used = absurd fits
 register_taken i o alt asked (Spot.Number n) fits used = absurd fits
 
@@ -141,7 +142,7 @@ kind_taken i s goal k x o Memory (Some r) spot e takes fits used =
 kind_taken i s goal k x o Number None spot e takes fits used = let wrong : false ≡ true = sym (ap (λ a. takes_registers (number_class k a).group) e) ∙ takes in cc
 kind_taken i s goal k x o Number (Some r) spot e takes fits used = absurd (number_unused i o x.allowed r spot fits used)
 
-in_first : (r : Reg) (xs ys : List Reg) → IsMember r xs → IsMember r (xs ++ ys)
+pub in_first : (r : Reg) (xs ys : List Reg) → IsMember r xs → IsMember r (xs ++ ys)
 in_first r [] ys h = absurd h
 in_first r (x ∷ xs) ys h = elim h [ inl e ↦ inl e | inr m ↦ inr (in_first r xs ys m) ]
 
@@ -183,7 +184,6 @@ output_register x Memory h = cc
 output_register x Number h = cc
 
 module _ (i : Interface) (s : Shape) (goal : Goal) (classes : List Class) (are : AreClasses i s goal classes) (p : Placement) (allowed : IsAllowed i s p) (used : AreUsed i s goal p) where
-
   record IsAt (k : ℕ) (c : Class) : Type 0 where
     t : IsTaker i s goal k c
     takes : takes_registers c.group ≡ true
@@ -229,7 +229,7 @@ module _ (i : Interface) (s : Shape) (goal : Goal) (classes : List Class) (are :
   from_early k j c d a b differ early r in_k in_j =
       let e = early_register a.t.operand a.t.operand.kind early in
       allowed.early_apart k j a.d.operand b.d.operand a.t.operand.allowed a.t.operand.kind a.d.has b.d.has.is_operand e.1 (λ same. differ (sym (sym b.root ∙ same)))
-        r (values_covered k c a e.0 r in_k) (all_covered j d b r in_j)
+      r (values_covered k c a e.0 r in_k) (all_covered j d b r in_j)
 
   from_outputs : (k j : ℕ) (c d : Class) (a : IsAt k c) (b : IsAt j d) → k ≢ j → output_kind a.t.operand a.t.operand.kind ≡ true → output_kind b.t.operand b.t.operand.kind ≡ true → Apart k j
   unfolding Apart
@@ -237,9 +237,9 @@ module _ (i : Interface) (s : Shape) (goal : Goal) (classes : List Class) (are :
       let e = output_register a.t.operand a.t.operand.kind out_k in
       let f = output_register b.t.operand b.t.operand.kind out_j in
       allowed.outputs_apart k j a.d.operand b.d.operand a.d.has.is_operand b.d.has.is_operand (ap is_output a.d.role ∙ e.1) (ap is_output b.d.role ∙ f.1) differ
-        r (values_covered k c a e.0 r in_k) (values_covered j d b f.0 r in_j)
+      r (values_covered k c a e.0 r in_k) (values_covered j d b f.0 r in_j)
 
-room_register : (i : Interface) (s : Shape) (k : ℕ) (x : ShapedOperand) (kind : Kind) → takes_registers (kind_class i s Room k x kind).group ≡ true → kind ≡ Register
+pub room_register : (i : Interface) (s : Shape) (k : ℕ) (x : ShapedOperand) (kind : Kind) → takes_registers (kind_class i s Room k x kind).group ≡ true → kind ≡ Register
 room_register i s k x Register h = refl
 room_register i s k x Memory h = cc
 room_register i s k x Number h = cc
@@ -265,10 +265,10 @@ from_inputs i s classes are p roomy used k j c d a b differ in_k in_j r takes_k 
     let spot_m : spot_of p m.at ≡ spot_of p k = roomy.allowed.ties m.at ∙ ap (spot_of p) m.root in
     let spot_n : spot_of p n.at ≡ spot_of p j = roomy.allowed.ties n.at ∙ ap (spot_of p) n.root in
     roomy.inputs_apart m.at n.at m.operand n.operand m.is_operand n.is_operand (λ same. differ (sym m.root ∙ same ∙ n.root)) r
-      (in_inputs m.operand (spot_of p m.at) r m.input (subst (λ z. IsMember r (value_registers z)) (sym spot_m) (values_covered i s Room classes are p roomy.allowed used k c a kind_k r takes_k)))
-      (in_inputs n.operand (spot_of p n.at) r n.input (subst (λ z. IsMember r (value_registers z)) (sym spot_n) (values_covered i s Room classes are p roomy.allowed used j d b kind_j r takes_j)))
+    (in_inputs m.operand (spot_of p m.at) r m.input (subst (λ z. IsMember r (value_registers z)) (sym spot_m) (values_covered i s Room classes are p roomy.allowed used k c a kind_k r takes_k)))
+    (in_inputs n.operand (spot_of p n.at) r n.input (subst (λ z. IsMember r (value_registers z)) (sym spot_n) (values_covered i s Room classes are p roomy.allowed used j d b kind_j r takes_j)))
 
-rival_takes : (g h : Group) → are_rivals g h ≡ true → (takes_registers g ≡ true) × (takes_registers h ≡ true)
+pub rival_takes : (g h : Group) → are_rivals g h ≡ true → (takes_registers g ≡ true) × (takes_registers h ≡ true)
 rival_takes Absent h e = cc
 rival_takes Exclusive Absent e = cc
 rival_takes Exclusive Exclusive e = (refl, refl)
@@ -283,14 +283,14 @@ assignment_use i s q classes are p allowed used = record {
   below = λ k c is takes. choice_below (asked_of (Use q) k) (spot_of p k);
   taken = taken i s (Use q) classes are p allowed used;
   apart = λ k j c d is_c is_d differ rivals.
-    let both = rival_takes c.group d.group rivals in
-    let a = at i s (Use q) classes are p allowed used k c is_c both.0 in
-    let b = at i s (Use q) classes are p allowed used j d is_d both.1 in
-    let x = a.t.operand in
-    let y = b.t.operand in
-    let told : are_rivals (group_of_kind i s (Use q) k x x.kind) (group_of_kind i s (Use q) j y y.kind) ≡ true =
+      let both = rival_takes c.group d.group rivals in
+      let a = at i s (Use q) classes are p allowed used k c is_c both.0 in
+      let b = at i s (Use q) classes are p allowed used j d is_d both.1 in
+      let x = a.t.operand in
+      let y = b.t.operand in
+      let told : are_rivals (group_of_kind i s (Use q) k x x.kind) (group_of_kind i s (Use q) j y y.kind) ≡ true =
       ap (λ g. are_rivals g (group_of_kind i s (Use q) j y y.kind)) (sym (taker_group i s (Use q) k c a.t both.0)) ∙ ap (are_rivals c.group) (sym (taker_group i s (Use q) j d b.t both.1)) ∙ rivals in
-    no_common_bit (choices_from (Use q) p k) (choices_from (Use q) p j) (choice_below (asked_of (Use q) k) (spot_of p k)) (choice_below (asked_of (Use q) j) (spot_of p j))
+      no_common_bit (choices_from (Use q) p k) (choices_from (Use q) p j) (choice_below (asked_of (Use q) k) (spot_of p k)) (choice_below (asked_of (Use q) j) (spot_of p j))
       (why k j c d a b differ (or_cases _ _ (sym (rivals_use q k j (early_kind x x.kind) (output_kind x x.kind) (input_kind i s k x x.kind) (early_kind y y.kind) (output_kind y y.kind) (input_kind i s j y y.kind) differ) ∙ told)));
 }
   where
@@ -302,9 +302,10 @@ assignment_use i s q classes are p allowed used = record {
         → Apart i s (Use q) classes are p allowed used k j
     why k j c d a b differ (inl early) = from_early i s (Use q) classes are p allowed used k j c d a b differ early
     why k j c d a b differ (inr rest) = elim (or_cases (early_kind b.t.operand b.t.operand.kind) (output_kind a.t.operand a.t.operand.kind && output_kind b.t.operand b.t.operand.kind) rest) [
-      inl early ↦ swap k j (from_early i s (Use q) classes are p allowed used j k d c b a (λ e. differ (sym e)) early)
+      | inl early ↦ swap k j (from_early i s (Use q) classes are p allowed used j k d c b a (λ e. differ (sym e)) early)
       | inr outputs ↦ let out = and_parts (output_kind a.t.operand a.t.operand.kind) (output_kind b.t.operand b.t.operand.kind) outputs in
-        from_outputs i s (Use q) classes are p allowed used k j c d a b differ out.0 out.1 ]
+          from_outputs i s (Use q) classes are p allowed used k j c d a b differ out.0 out.1
+    ]
 
 assignment_room : (i : Interface) (s : Shape) (classes : List Class) → AreClasses i s Room classes → (p : Placement) → IsRoomy i s p → AreUsed i s Room p → IsAssignment classes (choices_from Room p)
 unfolding Apart
@@ -312,16 +313,16 @@ assignment_room i s classes are p roomy used = record {
   below = λ k c is takes. choice_below (asked_of Room k) (spot_of p k);
   taken = taken i s Room classes are p roomy.allowed used;
   apart = λ k j c d is_c is_d differ rivals.
-    let both = rival_takes c.group d.group rivals in
-    let a = at i s Room classes are p roomy.allowed used k c is_c both.0 in
-    let b = at i s Room classes are p roomy.allowed used j d is_d both.1 in
-    let x = a.t.operand in
-    let y = b.t.operand in
-    let told : are_rivals (group_of_kind i s Room k x x.kind) (group_of_kind i s Room j y y.kind) ≡ true =
+      let both = rival_takes c.group d.group rivals in
+      let a = at i s Room classes are p roomy.allowed used k c is_c both.0 in
+      let b = at i s Room classes are p roomy.allowed used j d is_d both.1 in
+      let x = a.t.operand in
+      let y = b.t.operand in
+      let told : are_rivals (group_of_kind i s Room k x x.kind) (group_of_kind i s Room j y y.kind) ≡ true =
       ap (λ g. are_rivals g (group_of_kind i s Room j y y.kind)) (sym (taker_group i s Room k c a.t both.0)) ∙ ap (are_rivals c.group) (sym (taker_group i s Room j d b.t both.1)) ∙ rivals in
-    no_common_bit (choices_from Room p k) (choices_from Room p j) (choice_below (asked_of Room k) (spot_of p k)) (choice_below (asked_of Room j) (spot_of p j))
+      no_common_bit (choices_from Room p k) (choices_from Room p j) (choice_below (asked_of Room k) (spot_of p k)) (choice_below (asked_of Room j) (spot_of p j))
       (why k j c d a b differ (or_cases _ _ (sym (rivals_room k j (early_kind x x.kind) (output_kind x x.kind) (input_kind i s k x x.kind) (early_kind y y.kind) (output_kind y y.kind) (input_kind i s j y y.kind)
-        (input_unless i s k x x.kind a.t.is_operand a.t.untied) (input_unless i s j y y.kind b.t.is_operand b.t.untied)) ∙ told)));
+      (input_unless i s k x x.kind a.t.is_operand a.t.untied) (input_unless i s j y y.kind b.t.is_operand b.t.untied)) ∙ told)));
 }
   where
     swap : (k j : ℕ) → Apart i s Room classes are p roomy.allowed used j k → Apart i s Room classes are p roomy.allowed used k j
@@ -329,16 +330,18 @@ assignment_room i s classes are p roomy used = record {
 
     why : (k j : ℕ) (c d : Class) (a : IsAt i s Room classes are p roomy.allowed used k c) (b : IsAt i s Room classes are p roomy.allowed used j d) → k ≢ j
         → (early_kind a.t.operand a.t.operand.kind ≡ true)
-          ⊎ ((early_kind b.t.operand b.t.operand.kind || ((output_kind a.t.operand a.t.operand.kind && output_kind b.t.operand b.t.operand.kind) || (input_kind i s k a.t.operand a.t.operand.kind && input_kind i s j b.t.operand b.t.operand.kind))) ≡ true)
+        ⊎ ((early_kind b.t.operand b.t.operand.kind || ((output_kind a.t.operand a.t.operand.kind && output_kind b.t.operand b.t.operand.kind) || (input_kind i s k a.t.operand a.t.operand.kind && input_kind i s j b.t.operand b.t.operand.kind))) ≡ true)
         → Apart i s Room classes are p roomy.allowed used k j
     why k j c d a b differ (inl early) = from_early i s Room classes are p roomy.allowed used k j c d a b differ early
     why k j c d a b differ (inr rest) = elim (or_cases (early_kind b.t.operand b.t.operand.kind) _ rest) [
-      inl early ↦ swap k j (from_early i s Room classes are p roomy.allowed used j k d c b a (λ e. differ (sym e)) early)
+      | inl early ↦ swap k j (from_early i s Room classes are p roomy.allowed used j k d c b a (λ e. differ (sym e)) early)
       | inr others ↦ elim (or_cases (output_kind a.t.operand a.t.operand.kind && output_kind b.t.operand b.t.operand.kind) (input_kind i s k a.t.operand a.t.operand.kind && input_kind i s j b.t.operand b.t.operand.kind) others) [
-        inl outputs ↦ let out = and_parts (output_kind a.t.operand a.t.operand.kind) (output_kind b.t.operand b.t.operand.kind) outputs in
-          from_outputs i s Room classes are p roomy.allowed used k j c d a b differ out.0 out.1
+        | inl outputs ↦ let out = and_parts (output_kind a.t.operand a.t.operand.kind) (output_kind b.t.operand b.t.operand.kind) outputs in
+            from_outputs i s Room classes are p roomy.allowed used k j c d a b differ out.0 out.1
         | inr inputs ↦ let both = and_parts (input_kind i s k a.t.operand a.t.operand.kind) (input_kind i s j b.t.operand b.t.operand.kind) inputs in
-          from_inputs i s classes are p roomy used k j c d a b differ both.0 both.1 ] ]
+            from_inputs i s classes are p roomy used k j c d a b differ both.0 both.1
+      ]
+    ]
 
 nothing_asked : (i : Interface) (s : Shape) (p : Placement) → AreUsed i s Room p
 nothing_asked i s p = record { each = λ k x is untied r e. cc }

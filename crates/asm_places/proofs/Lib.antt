@@ -5,3 +5,8 @@ pub mod Rivals
 pub mod Sound
 pub mod Takers
 pub mod FromPlacement
+pub mod ToPlacement
+pub mod Settled
+pub mod Shapes
+pub mod LeastRoom
+pub mod Meeting

@@ -74,7 +74,7 @@ group_of_kind i s goal k x kind = group_for goal k (early_kind x kind) (output_k
 not_asked_room : (k : ℕ) (r : Reg) → asked_of Room k ≡ Some r → ⊥
 not_asked_room k r h = cc
 
-address_group : (i : Interface) (s : Shape) (goal : Goal) (k : ℕ) (x : ShapedOperand) (kind : Kind) (a : Option Reg) → asked_of goal k ≡ a → takes_registers (kind_class i s goal k x kind).group ≡ true
+pub address_group : (i : Interface) (s : Shape) (goal : Goal) (k : ℕ) (x : ShapedOperand) (kind : Kind) (a : Option Reg) → asked_of goal k ≡ a → takes_registers (kind_class i s goal k x kind).group ≡ true
     → (kind_class i s goal k x kind).group ≡ group_of_kind i s goal k x kind
 address_group i s goal k x Register a e takes = refl
 address_group i s goal k x Memory None e takes =

@@ -6,3 +6,7 @@ mod classes;
 mod goal;
 mod operand;
 mod placing;
+mod sharing;
+
+pub use placing::room;
+pub use sharing::may_share;

@@ -1,4 +1,10 @@
 ghost use Rattle.std.specs.Prelude.{◌≡◌, ℕ, ◌<◌, ◌≤◌, length, slice_get, unwrap_or, IfSome, IfNone};
+ghost use Rattle.asm_core.specs.Lists.{IsMember};
+ghost use Rattle.asm_core.specs.Shape.{shapes_of};
+ghost use Rattle.asm_core.specs.Placement.{IsRoomy};
+ghost use Rattle.asm_core.specs.Roomy.{IsLeastRoomy};
+ghost use Rattle.asm_core.specs.WellFormed.{IsInterface};
+ghost use Rattle.asm_core.specs.declared.placement.Placement.{Placement};
 ghost use Rattle.register_search.specs.Assignment.{IsLeast};
 ghost use Rattle.asm_places.specs.Operand.{operand_in};
 ghost use Rattle.asm_places.specs.Placing.{IsPlacedBy, IsLeastPlaced, HasNoAssignment, left_in, choice_spot, memory_spot, lower_end, kind_spot, spot_for};
@@ -8,6 +14,19 @@ use crate::goal::Goal;
 use crate::operand::{ShapedOperand, operand_in, tie_root};
 use asm_core::{Base, Form, Interface, Kind, Placement, Reg, Shape, Spot};
 use register_search::{Class, has_assignment, settle};
+
+/// The least roomy placement: operands in order, each in the first register with which one exists; None exactly where there is none.
+///
+/// A placement is roomy where no register serves two inputs that are not tied to one another. Memory operand k is at the number
+/// 1048576 * (k + 1), a number is its known value or the least in range.
+pub fn room(i: &Interface, s: &Shape) -> Option<Placement>
+    requires interface { IsInterface i.now }
+    requires shape { IsMember s.now (shapes_of i.now) }
+    ensures least { IfSome result (IsLeastRoomy i.now s.now) }
+    ensures none { IfNone result ((p : Placement) → IsRoomy i.now s.now p → ⊥) }
+{
+    least_placement(i, s, &Goal::Room)
+}
 
 /// The placement of the least assignment.
 pub(crate) fn least_placement(i: &Interface, s: &Shape, goal: &Goal) -> Option<Placement>
