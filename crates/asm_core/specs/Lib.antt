@@ -15,6 +15,7 @@ pub mod Pieces
 pub mod Placement
 pub mod Reading
 pub mod Reg
+pub mod Roomy
 pub mod Rows
 pub mod Run
 pub mod Shape

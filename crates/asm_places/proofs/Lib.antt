@@ -1,0 +1,12 @@
+pub mod Filling
+pub mod Shaped
+pub mod Choices
+pub mod Rivals
+pub mod Sound
+pub mod Takers
+pub mod FromPlacement
+pub mod ToPlacement
+pub mod Settled
+pub mod Shapes
+pub mod LeastRoom
+pub mod Meeting

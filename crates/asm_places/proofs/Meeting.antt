@@ -1,0 +1,108 @@
+-- Placements in which two places use a register, and the operands that have to use it.
+use Rattle.std.proofs.Common.{◌≡◌, ◌≢◌, ◌⊎◌, inl, inr, ℕ, ◌==◌, ◌||◌, not, List, [], ◌∷◌, ◌++◌, Bool, true, false, Option, None, Some, slice_get, refl, sym, ap, subst, ◌∙◌, arith, if◌then◌else◌}
+use Rattle.std.proofs.lemmas.Bool.{or_cases, or_left, or_right, eqb-true, eq-eqb, both_ways, cases_Bool}
+use Rattle.asm_core.specs.Reg.{reg_number}
+use Rattle.asm_core.specs.Lists.{IsMember}
+use Rattle.asm_core.specs.Placement.{spot_of, value_registers, address_registers, HasOperand, IsAllowed, tie_root}
+use Rattle.asm_core.specs.Roomy.{place_registers, IsPlaceOf}
+use Rattle.asm_core.specs.declared.reg.Reg.{Reg}
+use Rattle.asm_core.specs.declared.sym.Place.{Place}
+use Rattle.asm_core.specs.declared.shape.Shape.{Shape}
+use Rattle.asm_core.specs.declared.interface.OperandIface.{OperandIface}
+use Rattle.asm_core.specs.declared.interface.Interface.{Interface}
+use Rattle.asm_core.specs.declared.placement.Placement.{Placement}
+use Rattle.asm_core.proofs.RegisterLaws.{same_reg}
+use Rattle.asm_places.specs.Operand.{operand_in}
+use Rattle.asm_places.specs.Classes.{is_asked, asked_of}
+use Rattle.asm_places.specs.Placing.{IsLeastPlaced, HasNoAssignment}
+use Rattle.asm_places.specs.Sharing.{is_other, operand_of, IsSharedIn}
+use Rattle.asm_places.specs.declared.goal.Asked.{Asked}
+use Rattle.asm_places.specs.declared.goal.Goal.TheVariants.{Use}
+use Rattle.asm_places.specs.declared.operand.ShapedOperand.{ShapedOperand}
+use Rattle.asm_places.proofs.Shaped.{in_shape, operand_is}
+use Rattle.asm_places.proofs.FromPlacement.{IsUsed, AreUsed, choices_from, allowed_assigns}
+use Rattle.asm_places.proofs.ToPlacement.{use_allowed, use_used}
+use Rattle.asm_places.proofs.Sound.{IsSound, IsRoot, root_of}
+
+-- what is asked of the operands for two places and a register
+abbrev pub asked_for : Interface → Shape → Place → Place → Reg → Asked
+asked_for i s p q r = record { register = r; first = operand_of i s p; second = operand_of i s q }
+
+one_member : (q r : Reg) → IsMember q (r ∷ []) → q ≡ r
+one_member q r m = elim m [ inl e ↦ e | inr n ↦ absurd n ]
+
+-- another register is not where the register is
+pub other_apart : (at : Placement) (place : Place) (r : Reg) → is_other place r ≡ true → IsMember r (place_registers at place) → ⊥
+other_apart at (Place.Reg own) r other m =
+    both_ways (reg_number own == reg_number r) (not_true (reg_number own == reg_number r) other) (eq-eqb _ _ (ap reg_number (sym (one_member r own m))))
+  where
+    not_true : (b : Bool) → not b ≡ true → b ≡ false
+    not_true true h = cc
+    not_true false h = refl
+other_apart at (Place.Operand k) r other m = cc
+
+-- a place that is not another register uses the register, where its operand does
+place_uses : (i : Interface) (s : Shape) (at : Placement) (place : Place) (r : Reg) → IsSound i s → IsPlaceOf i place → IsAllowed i s at → is_other place r ≡ false
+    → ((k : ℕ) (x : ShapedOperand) → operand_of i s place ≡ Some k → operand_in i s k ≡ Some x → x.allowed.tied ≡ None → IsMember r (value_registers (spot_of at k) ++ address_registers (spot_of at k)))
+    → IsMember r (place_registers at place)
+place_uses i s at (Place.Reg own) r sound is allowed other used = inl (same_reg r own (sym (eqb-true _ _ (not_false (reg_number own == reg_number r) other))))
+  where
+    not_false : (b : Bool) → not b ≡ false → b ≡ true
+    not_false true h = refl
+    not_false false h = cc
+place_uses i s at (Place.Operand k) r sound is allowed other used =
+    let o = is.is_operand k refl in
+    let m = root_of i s k o.0 sound o.1 in
+    subst (λ z. IsMember r (value_registers z ++ address_registers z)) (sym (allowed.ties k))
+    (used (tie_root i s k) (in_shape m.operand m.allowed m.kind) refl (operand_is i s (tie_root i s k) m.operand m.allowed m.kind m.has) m.untied)
+
+asked_first : (a : Asked) (k : ℕ) → a.first ≡ Some k → asked_of (Use a) k ≡ Some a.register
+asked_first a k e = ap (λ b. if b then Some a.register else None) (or_left (is_asked a.first k) (is_asked a.second k) (ap (λ o. is_asked o k) e ∙ eq-eqb k k refl))
+
+asked_second : (a : Asked) (k : ℕ) → a.second ≡ Some k → asked_of (Use a) k ≡ Some a.register
+asked_second a k e = ap (λ b. if b then Some a.register else None) (or_right (is_asked a.first k) (is_asked a.second k) (ap (λ o. is_asked o k) e ∙ eq-eqb k k refl))
+
+pub placed_shares : (i : Interface) (s : Shape) (p q : Place) (r : Reg) (at : Placement) → IsSound i s → IsPlaceOf i p → IsPlaceOf i q → is_other p r ≡ false → is_other q r ≡ false
+    → IsLeastPlaced i s (Use (asked_for i s p q r)) at → IsSharedIn i s p q r at
+placed_shares i s p q r at sound is_p is_q other_p other_q l =
+    let asked = asked_for i s p q r in
+    let allowed = use_allowed i s asked sound l.classes l.are l.choice_of l.least.assigned at l.placed in
+    let used = use_used i s asked sound l.classes l.are l.choice_of l.least.assigned at l.placed in
+    record {
+      allowed = allowed;
+      first = place_uses i s at p r sound is_p allowed other_p (λ k x e is untied. used.each k x is untied r (asked_first asked k e));
+      second = place_uses i s at q r sound is_q allowed other_q (λ k x e is untied. used.each k x is untied r (asked_second asked k e));
+    }
+
+-- ---- and the other way round
+
+asked_by : (o : Option ℕ) (k : ℕ) → is_asked o k ≡ true → o ≡ Some k
+asked_by None k h = cc
+asked_by (Some j) k h = ap (λ n. Some n) (eqb-true j k h)
+
+place_asks : (i : Interface) (s : Shape) (at : Placement) (place : Place) (r : Reg) (k : ℕ) → IsAllowed i s at → IsMember r (place_registers at place) → operand_of i s place ≡ Some k
+    → IsMember r (value_registers (spot_of at k) ++ address_registers (spot_of at k))
+place_asks i s at (Place.Reg own) r k allowed m e = cc
+place_asks i s at (Place.Operand j) r k allowed m e =
+    let root : tie_root i s j ≡ k = cc in
+    subst (λ z. IsMember r (value_registers z ++ address_registers z)) (allowed.ties j ∙ ap (spot_of at) root) m
+
+only_one : (b : Bool) (r q : Reg) → (if b then Some r else None) ≡ Some q → (b ≡ true) × (r ≡ q)
+only_one true r q h = (refl, let e : Some r ≡ Some q = h in cc)
+only_one false r q h = cc
+
+pub shared_used : (i : Interface) (s : Shape) (p q : Place) (r : Reg) (at : Placement) → IsSharedIn i s p q r at → AreUsed i s (Use (asked_for i s p q r)) at
+shared_used i s p q r at shared = record { each = λ k x is untied t e. used k t e }
+  where
+    used : (k : ℕ) (t : Reg) → asked_of (Use (asked_for i s p q r)) k ≡ Some t → IsMember t (value_registers (spot_of at k) ++ address_registers (spot_of at k))
+    used k t e =
+        let told = only_one (is_asked (operand_of i s p) k || is_asked (operand_of i s q) k) r t e in
+        subst (λ z. IsMember z (value_registers (spot_of at k) ++ address_registers (spot_of at k))) told.1
+        (elim (or_cases (is_asked (operand_of i s p) k) (is_asked (operand_of i s q) k) told.0) [
+          | inl first ↦ place_asks i s at p r k shared.allowed shared.first (asked_by (operand_of i s p) k first)
+          | inr second ↦ place_asks i s at q r k shared.allowed shared.second (asked_by (operand_of i s q) k second)
+        ])
+
+pub none_shares : (i : Interface) (s : Shape) (p q : Place) (r : Reg) → HasNoAssignment i s (Use (asked_for i s p q r)) → (at : Placement) → IsSharedIn i s p q r at → ⊥
+none_shares i s p q r h at shared =
+    h.none (choices_from (Use (asked_for i s p q r)) at, allowed_assigns i s (asked_for i s p q r) h.classes h.are at shared.allowed (shared_used i s p q r at shared))

@@ -1,0 +1,4 @@
+pub mod Operand
+pub mod Classes
+pub mod Placing
+pub mod Sharing
