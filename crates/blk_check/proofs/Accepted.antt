@@ -1,5 +1,5 @@
 -- From the answer of `check` to the theorem.
-use Rattle.std.proofs.Common.{◌≡◌, List, [], ◌∷◌, Bool, true, false, Option, None, Some, slice_get, if◌then◌else◌, refl, ap, sym, ◌∙◌, subst}
+use Rattle.std.proofs.Common.{◌≡◌, inl, inr, List, [], ◌∷◌, Bool, true, false, Option, None, Some, slice_get, if◌then◌else◌, refl, ap, sym, ◌∙◌, subst}
 use Rattle.asm_core.specs.Frame.{KeepsFrame}
 use Rattle.asm_core.specs.declared.statement.Parts.{Parts}
 use Rattle.asm_core.specs.declared.statement.Body.{Body}
@@ -8,7 +8,8 @@ use Rattle.asm_core.specs.declared.interface.OperandIface.{OperandIface}
 use Rattle.asm_core.specs.declared.interface.Interface.{Interface}
 use Rattle.asm_core.specs.declared.sym.Sym.{Sym}
 use Rattle.blk_check.specs.FirstForm.{first_form_of}
-use Rattle.blk_check.specs.Judged.{has_words, lines_in, lines_in_body, IsVerdict}
+use Rattle.asm_core.specs.Shape.{shapes_of}
+use Rattle.blk_check.specs.Judged.{has_words, lines_in, lines_in_body, shapes_mark, no_room, IsVerdict, IsShapesVerdict, IsLinesVerdict}
 use Rattle.blk_check.specs.Proven.{Proven}
 use Rattle.blk_check.specs.declared.verdict.Verdict.{Verdict}
 use Rattle.blk_check.specs.Verdict.{verdict_of}
@@ -30,9 +31,19 @@ judged_frame s i lines is_lines accepted =
     let first = zeroth i.operands t.0 in
     accepted_frame i lines first.0 first.1 (first_lines s.body lines t.1) accepted
 
+-- an accepted statement's lines were judged
+lines_judged : (s : Statement) (i : Interface) (proof : Proven) → IsVerdict s i (Verdict.Ok proof) → IsLinesVerdict s i (Verdict.Ok proof)
+lines_judged s i proof (inl crowded) = let no : Verdict.Ok proof ≡ Verdict.Outside (shapes_mark s) = crowded.1 in cc
+lines_judged s i proof (inr few) = go few.1
+  where
+    go : IsShapesVerdict s i (shapes_of i) (Verdict.Ok proof) → IsLinesVerdict s i (Verdict.Ok proof)
+    go (inl none) = let no : Verdict.Ok proof ≡ Verdict.Broken (no_room ∷ []) = none.1 in cc
+    go (inr judged) = judged.1
+
 -- the lines of a statement with these parts, where it is accepted
 pub ok_keeps : (s : Statement) (i : Interface) (parts : Parts) (lines : List Sym) (proof : Proven) → s.body ≡ Body.Parts parts → first_form_of parts ≡ Some lines → IsVerdict s i (Verdict.Ok proof) → KeepsFrame i lines
-ok_keeps s i parts lines proof is_parts is_lines v =
+ok_keeps s i parts lines proof is_parts is_lines verdict =
+    let v = lines_judged s i proof verdict in
     let t = kept_by_test (has_words i.operands) (lines_in_body s.body) proof.lines v.2 in
     let here : lines_in_body s.body ≡ Some lines = ap lines_in_body is_parts ∙ is_lines in
     let same : proof.lines ≡ lines = cc (t.1, here) in

@@ -5,4 +5,5 @@ pub mod Frame
 pub mod KnownLaws
 mod Lines
 mod Numbers
+pub mod RoomLaws
 mod VerdictLaws

@@ -3,6 +3,7 @@
 
 mod form;
 mod line;
+mod room;
 mod verdict;
 
 pub use verdict::{Proof, Verdict, check};

@@ -1,13 +1,17 @@
 ghost use Rattle.std.specs.Prelude.{◌≡◌, ◌==◌, ◌++◌, not, slice_get, IfOk, OnOk};
 ghost use Rattle.std.specs.List.{list_all, list_any};
-ghost use Rattle.blk_check.specs.Judged.{IsVerdict, IsLinesVerdict, OkKeepsFrame, has_words, lines_in, lines_in_body};
+ghost use Rattle.asm_core.specs.Shape.{shapes_of};
+ghost use Rattle.asm_core.specs.WellFormed.{IsInterface};
+ghost use Rattle.blk_check.specs.Judged.{IsVerdict, IsShapesVerdict, IsLinesVerdict, OkKeepsFrame, shapes_mark, no_room, has_words, lines_in, lines_in_body};
 ghost use Rattle.blk_check.specs.Verdict.{verdict_of, is_input_alone, finding_if, at_end, moves_to_itself, sets_flags};
 
 use crate::form::{first_form, reads};
+use crate::room::any_has_room;
 use asm_core::{
-    Body, Cell, Duplicate, END_LINE, Finding, Interface, Items, Mark, Memory, Op, OperandIface,
-    Role, Rule, Statement, Sym,
+    Body, Cell, Duplicate, END_LINE, Finding, Interface, Items, Mark, MarkKind, Memory, Op,
+    OperandIface, Role, Rule, Shape, Statement, Sym,
 };
+use asm_places::{ShapesEnd, shapes};
 use std::alloc::Global;
 use std::marker::Model;
 
@@ -56,10 +60,54 @@ pub enum Verdict {
 
 /// Judges a statement by its interface.
 pub fn check(alloc: Global, statement: &Statement, interface: &Interface) -> Result<Verdict, Memory>
+    requires { IsInterface interface.now }
     ensures verdict { IfOk result (IsVerdict statement.now interface.now) }
     ensures frame { IfOk result OkKeepsFrame }
 {
-    check_lines(alloc, statement, interface)
+    let shapes = match shapes(alloc, interface) {
+        Ok(shapes) => shapes,
+        Err(ShapesEnd::TooMany) => return Ok(Verdict::Outside(shapes_mark(statement))),
+        Err(ShapesEnd::Memory) => return Err(Memory),
+    };
+    check_shapes(alloc, statement, interface, shapes.as_slice())
+}
+
+/// Judges a statement that has these shapes, which aren't too many.
+fn check_shapes(
+    alloc: Global,
+    statement: &Statement,
+    interface: &Interface,
+    shapes: &[Shape],
+) -> Result<Verdict, Memory>
+    requires interface { IsInterface interface.now }
+    requires shapes { shapes.now ≡ shapes_of interface.now }
+    ensures verdict { IfOk result (IsShapesVerdict statement.now interface.now shapes.now) }
+    ensures frame { IfOk result OkKeepsFrame }
+{
+    if any_has_room(interface, shapes) {
+        return check_lines(alloc, statement, interface);
+    }
+    Ok(Verdict::Broken(Items::from_slice(alloc, &[no_room()])?))
+}
+
+fn shapes_mark(statement: &Statement) -> Mark
+    ensures { result ≡ shapes_mark statement.now }
+{
+    Mark {
+        kind: MarkKind::Shapes,
+        place: statement.span.from,
+    }
+}
+
+fn no_room() -> Finding
+    ensures { result ≡ no_room }
+{
+    Finding {
+        rule: Rule::K1,
+        line: 0,
+        cell: Cell::Nothing,
+        other: Cell::Nothing,
+    }
 }
 
 /// Judges the lines of a statement.

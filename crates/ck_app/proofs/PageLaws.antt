@@ -1,5 +1,5 @@
 -- From the verdicts on a file's statements to the page of the file.
-use Rattle.std.proofs.Common.{◌≡◌, ℕ, List, [], ◌∷◌, Bool, true, false, if◌then◌else◌, Option, None, Some, Result, Ok, Err, IsTrue, refl, sym, ◌∙◌, ap, subst, nat_lt, ◌≤◌, length, arith}
+use Rattle.std.proofs.Common.{◌≡◌, ℕ, List, [], ◌∷◌, Bool, true, false, if◌then◌else◌, Option, None, Some, IsSomeAnd, Result, Ok, Err, IsTrue, refl, sym, ◌∙◌, ap, subst, nat_lt, ◌<◌, ◌≤◌, length, arith}
 use Rattle.std.specs.List.{list_any}
 use Rattle.std.proofs.lemmas.Bool.Decides.{nat_tests}
 use Rattle.asm_statement.specs.Statements.{statements_of}
@@ -9,8 +9,7 @@ use Rattle.c_tokens.specs.declared.token_end.TokenEnd.{TokenEnd}
 use Rattle.c_words.specs.File.{file_of}
 use Rattle.c_decls.specs.Walk.{declarations_of}
 use Rattle.ck_ports.specs.Outside.{Outside}
-use Rattle.ck_ports.specs.declared.transfer.TheConstants.{MAX_FILE_BYTES}
-use Rattle.ck_app.specs.Answer.{Answer, answer, judged_answer, tokens_answer, file_answer, AreVerdicts, IsFileAnswer, IsReadAnswer}
+use Rattle.ck_app.specs.Answer.{Answer, answer, most_bytes, judged_answer, tokens_answer, file_answer, AreVerdicts, IsFileAnswer, IsReadAnswer}
 use Rattle.ck_app.specs.Judgement.{AreJudged, is_broken, is_outside, is_open}
 use Rattle.ck_app.specs.declared.judgement.Judged.{Judged}
 use Rattle.ck_app.specs.Report.{too_large_line, bad_text_line}
@@ -20,26 +19,36 @@ use Rattle.ck_app.specs.declared.status.Status.{Status}
 -- ---- what a page answers
 
 -- a text that isn't too large
-within : (text : List ℕ) → length text ≤ MAX_FILE_BYTES → nat_lt MAX_FILE_BYTES (length text) ≡ false
+within : (text : List ℕ) → length text ≤ most_bytes → nat_lt most_bytes (length text) ≡ false
 within text small = grind (arith, nat_tests)
 
-small_answer : (name text : List ℕ) (js : List Judged) → length text ≤ MAX_FILE_BYTES → file_answer name text js ≡ tokens_answer name text (tokens_of text) js
+small_answer : (name text : List ℕ) (js : List Judged) → length text ≤ most_bytes → file_answer name text js ≡ tokens_answer name text (tokens_of text) js
 small_answer name text js small = ap (λ b. if b then answer (too_large_line name) Status.TooLarge else tokens_answer name text (tokens_of text) js) (within text small)
 
+-- a text that is too large
+pub too_large-answer : (name text : List ℕ) → most_bytes < length text → IsFileAnswer name text (answer (too_large_line name) Status.TooLarge)
+too_large-answer name text large =
+    let over : nat_lt most_bytes (length text) ≡ true = grind (arith, nat_tests) in
+    record {
+      judged = [];
+      are_verdicts = λ ts short ok. absurd (omega arith);
+      is = sym (ap (λ b. if b then answer (too_large_line name) Status.TooLarge else tokens_answer name text (tokens_of text) []) over);
+    }
+
 -- a text without tokens
-pub bad_text-answer : (name text : List ℕ) (end : TokenEnd) (a : Answer) → length text ≤ MAX_FILE_BYTES → tokens_of text ≡ Err end → a ≡ answer (bad_text_line name text end) Status.BadText → IsFileAnswer name text a
+pub bad_text-answer : (name text : List ℕ) (end : TokenEnd) (a : Answer) → length text ≤ most_bytes → tokens_of text ≡ Err end → a ≡ answer (bad_text_line name text end) Status.BadText → IsFileAnswer name text a
 bad_text-answer name text end a small bad is = record {
   judged = [];
-  are_verdicts = λ ts ok. cc;
+  are_verdicts = λ ts short ok. cc;
   is = is ∙ sym (small_answer name text [] small ∙ ap (λ r. tokens_answer name text r []) bad);
 }
 
 -- a text with tokens, whose statements have these verdicts
-pub judged-answer : (name text : List ℕ) (ts : List Token) (js : List Judged) (a : Answer) → length text ≤ MAX_FILE_BYTES → tokens_of text ≡ Ok ts
+pub judged-answer : (name text : List ℕ) (ts : List Token) (js : List Judged) (a : Answer) → length text ≤ most_bytes → tokens_of text ≡ Ok ts
     → AreJudged (file_of text ts) (declarations_of (file_of text ts)) (statements_of text ts) js → a ≡ judged_answer name text js → IsFileAnswer name text a
 judged-answer name text ts js a small ok judged is = record {
   judged = js;
-  are_verdicts = λ us is_us. let same : ts ≡ us = cc in subst (λ (q : List Token). AreJudged (file_of text q) (declarations_of (file_of text q)) (statements_of text q) js) same judged;
+  are_verdicts = λ us short is_us. let same : ts ≡ us = cc in subst (λ (q : List Token). AreJudged (file_of text q) (declarations_of (file_of text q)) (statements_of text q) js) same judged;
   is = is ∙ sym (small_answer name text js small ∙ ap (λ r. tokens_answer name text r js) ok);
 }
 
@@ -71,7 +80,7 @@ of_either false x y h k = k
 of_file : (name text : List ℕ) (a : Answer) → IsFileAnswer name text a → is_of_file a.status ≡ true
 of_file name text a h =
     ap (λ (x : Answer). is_of_file x.status) h.is
-    ∙ of_either (nat_lt MAX_FILE_BYTES (length text)) (answer (too_large_line name) Status.TooLarge) (tokens_answer name text (tokens_of text) h.judged) refl (of_tokens name text (tokens_of text) h.judged)
+    ∙ of_either (nat_lt most_bytes (length text)) (answer (too_large_line name) Status.TooLarge) (tokens_answer name text (tokens_of text) h.judged) refl (of_tokens name text (tokens_of text) h.judged)
 
 module _ (name bytes : List ℕ) (old new : Outside) (there : IsTrue old.tells → old.file name ≡ Some bytes) where
   told : (text : List ℕ) (status : Status) → IsFileAnswer name bytes (answer text status) → IsTrue old.tells → IsReadAnswer name (old.file name) (answer text status)
@@ -92,5 +101,9 @@ module _ (name bytes : List ℕ) (old new : Outside) (there : IsTrue old.tells �
 
   pub judged_page : (status : Status) (text : List ℕ) → IsFileAnswer name bytes (answer text status) → IsPageOf status text name old new
   judged_page status text is = page_by_status status text is (of_file name bytes (answer text status) is)
+
+pub too_large_page : (name printed : List ℕ) (content : Option (List ℕ)) → IsSomeAnd content (λ bytes. most_bytes < length bytes) → printed ≡ too_large_line name → IsReadAnswer name content (answer printed Status.TooLarge)
+too_large_page name printed None large same = absurd large
+too_large_page name printed (Some text) large same = subst (λ t. IsFileAnswer name text (answer t Status.TooLarge)) (sym same) (too_large-answer name text large)
 
 pub ruleset page_laws = (bad_text-answer, judged-answer)

@@ -1,12 +1,11 @@
 -- What a run prints and how it ends, as its words and the files say.
-use Rattle.std.specs.Prelude.{◌≡◌, ℕ, nat_lt, List, length, Option, None, Some, Result, Ok, Err, if◌then◌else◌}
+use Rattle.std.specs.Prelude.{◌≡◌, ◌≤◌, ℕ, nat_lt, List, length, Option, None, Some, Result, Ok, Err, if◌then◌else◌}
 use Rattle.std.specs.List.{list_any}
 use Rattle.c_tokens.specs.Tokens.{tokens_of}
 use Rattle.c_tokens.specs.declared.token.Token.{Token}
 use Rattle.c_tokens.specs.declared.token_end.TokenEnd.{TokenEnd}
 use Rattle.c_words.specs.File.{file_of}
 use Rattle.c_decls.specs.Walk.{declarations_of}
-use Rattle.ck_ports.specs.declared.transfer.TheConstants.{MAX_FILE_BYTES}
 use Rattle.asm_statement.specs.Statements.{statements_of}
 use Rattle.ck_app.specs.Judgement.{AreJudged, is_broken, is_outside, is_open}
 use Rattle.ck_app.specs.Report.{judged_lines, cannot_be_read_line, too_large_line, not_yet_line, bad_text_line}
@@ -37,14 +36,18 @@ abbrev pub tokens_answer : List ℕ → List ℕ → Result (List Token) TokenEn
 tokens_answer name text (Err end) js = answer (bad_text_line name text end) Status.BadText
 tokens_answer name text (Ok tokens) js = judged_answer name text js
 
+-- 16 MiB
+abbrev pub most_bytes : ℕ
+most_bytes = 16777216
+
 -- what is printed of a file that holds these bytes, where its statements have these verdicts
 abbrev pub file_answer : List ℕ → List ℕ → List Judged → Answer
 file_answer name text js =
-    if nat_lt MAX_FILE_BYTES (length text) then answer (too_large_line name) Status.TooLarge else tokens_answer name text (tokens_of text) js
+    if nat_lt most_bytes (length text) then answer (too_large_line name) Status.TooLarge else tokens_answer name text (tokens_of text) js
 
--- these are the verdicts on the statements of the text, if it has tokens
+-- these are the verdicts on the statements of the text, if it isn't too large and has tokens
 abbrev pub AreVerdicts : List ℕ → List Judged → Type 0
-AreVerdicts text js = (ts : List Token) → tokens_of text ≡ Ok ts → AreJudged (file_of text ts) (declarations_of (file_of text ts)) (statements_of text ts) js
+AreVerdicts text js = (ts : List Token) → length text ≤ most_bytes → tokens_of text ≡ Ok ts → AreJudged (file_of text ts) (declarations_of (file_of text ts)) (statements_of text ts) js
 
 pub record IsFileAnswer (name text : List ℕ) (a : Answer) : Type 0 where
   pub judged : List Judged

@@ -8,3 +8,6 @@ returns-in_ok-judge-in-Ok-clause-page g c =
     judged_page c.args.name.now c.as_slice.result.now (g.F.Files.outside c.args.files.now) (g.F.Files.outside c.read_all.new.files)
     (λ told. c.in-Ok.ensures.whole told ∙ ap Some (sym c.as_slice.ensures))
     c.in_ok-judge-in-Ok.field-0.status (string_bytes c.in_ok-judge-in-Ok.field-0.text) c.in_ok-judge-in-Ok.ensures
+
+pub returns-in_ok-too_large_line-in-Err-TooLarge-clause-page : goal.returns-in_ok-too_large_line-in-Err-TooLarge-clause-page
+returns-in_ok-too_large_line-in-Err-TooLarge-clause-page g c = ?

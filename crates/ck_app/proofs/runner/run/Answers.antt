@@ -1,8 +1,12 @@
 use Rattle.std.proofs.Common.{sym, subst, List, ℕ}
-use Rattle.ck_app.specs.Run.{OkIsFramed, IsPrinted}
+use Rattle.ck_app.proofs.FrameLaws.{run_is_framed}
+use Rattle.ck_app.specs.Run.{IsPrinted}
 use Rattle.ck_app.specs.declared.status.Status.{Status}
 use Rattle.ck_app.proofs.PrintLaws.{usage_prints}
 use Rattle.ck_app.proofs.runner.run.Goals as goal
+
+pub returns-in-Some-clause-framed : goal.returns-in-Some-clause-framed
+returns-in-Some-clause-framed g c = run_is_framed _ _
 
 pub returns-in-None-clause-prints : goal.returns-in-None-clause-prints
 returns-in-None-clause-prints g c = λ told.
