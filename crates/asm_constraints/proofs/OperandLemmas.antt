@@ -30,7 +30,7 @@ module _ (outputs : List (Option (List ℕ))) (types : List (Option Operand)) wh
   constrained_from-append n (p ∷ ps) qs =
       let same : n + 1 + length ps ≡ n + suc (length ps) = omega arith in
       ap (λ rest. constrained_operand outputs n p (optional_at types n) ∷ rest)
-          (constrained_from-append (n + 1) ps qs ∙ ap (λ k. constrained_from outputs types (n + 1) ps ++ constrained_from outputs types k qs) same)
+      (constrained_from-append (n + 1) ps qs ∙ ap (λ k. constrained_from outputs types (n + 1) ps ++ constrained_from outputs types k qs) same)
 
   -- one more operand is made
   pub constrained_from-more : (parts : List Part) (i : ℕ) (part : Part) (number : ℕ) (typed : Option Operand) (w : ConstrainedOperand) (before made all : List ConstrainedOperand) → i < length parts
@@ -41,9 +41,9 @@ module _ (outputs : List (Option (List ℕ))) (types : List (Option Operand)) wh
       let begins : drop i parts ≡ part ∷ drop (i + 1) parts = drop_more parts i part inside ∙ ap (λ x. x ∷ drop (i + 1) parts) (sym p) in
       let counted : length made ≡ length before + 1 = rw (m, length-append) refl in
       let step : constrained_from outputs types (length before) (drop i parts) ≡ w ∷ constrained_from outputs types (length made) (drop (i + 1) parts) =
-          ap (constrained_from outputs types (length before)) begins ∙ (constrained_from-first (length before) part (drop (i + 1) parts) ∙ rw (e, counted) refl) in
+      ap (constrained_from outputs types (length before)) begins ∙ (constrained_from-first (length before) part (drop (i + 1) parts) ∙ rw (e, counted) refl) in
       let joined : made ++ constrained_from outputs types (length made) (drop (i + 1) parts) ≡ before ++ (w ∷ constrained_from outputs types (length made) (drop (i + 1) parts)) =
-          ap (λ xs. xs ++ constrained_from outputs types (length made) (drop (i + 1) parts)) m ∙ append_assoc before (w ∷ []) _ in
+      ap (λ xs. xs ++ constrained_from outputs types (length made) (drop (i + 1) parts)) m ∙ append_assoc before (w ∷ []) _ in
       joined ∙ (ap (λ rest. before ++ rest) (sym step) ∙ invariant)
 
   -- no more are left

@@ -88,7 +88,7 @@ numbers_of_size-zero : (size : ℕ) → HasZero (numbers_of_size size)
 numbers_of_size-zero size =
     choose_zero (size == 1) (negsuc 127, pos 127) _ (record { low = omega (arith, ints); high = omega (arith, ints) })
     (choose_zero (size == 2) (negsuc 32767, pos 32767) (negsuc 2147483647, pos 2147483647)
-        (record { low = omega (arith, ints); high = omega (arith, ints) }) (record { low = omega (arith, ints); high = omega (arith, ints) }))
+    (record { low = omega (arith, ints); high = omega (arith, ints) }) (record { low = omega (arith, ints); high = omega (arith, ints) }))
 
 cut_to-zero : (whole range : ℤ × ℤ) → HasZero whole → HasZero range → HasZero (cut_to whole range)
 cut_to-zero whole range x y = record { low = max_low range.0 whole.0 y.low x.low; high = min_high range.1 whole.1 y.high x.high }

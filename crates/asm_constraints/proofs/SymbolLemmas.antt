@@ -22,7 +22,7 @@ unfolding symbols_from
 symbols_from-first outputs b bs = ap (λ rest. (symbol_at outputs b bs).0 ∷ rest) (symbols_from-taken outputs (symbol_at outputs b bs).1 bs)
 
 -- the next symbol, and those behind it
-pub symbols_from-at : (outputs : List (Option (List ℕ))) (text : List ℕ) (at next : ℕ) (found : Symbol × ℕ) → at < length text
+symbols_from-at : (outputs : List (Option (List ℕ))) (text : List ℕ) (at next : ℕ) (found : Symbol × ℕ) → at < length text
     → found ≡ symbol_at outputs (get_or text at 0) (drop (at + 1) text) → next ≡ at + (1 + found.1)
     → symbols_from outputs 0 (drop at text) ≡ found.0 ∷ symbols_from outputs 0 (drop next text)
 symbols_from-at outputs text at next found inside e n =
@@ -33,7 +33,7 @@ symbols_from-at outputs text at next found inside e n =
     let place : next ≡ at + 1 + found.1 = omega (arith, n) in
     cc
 
-pub symbols_from-all : (outputs : List (Option (List ℕ))) (text : List ℕ) (at : ℕ) → length text ≤ at → symbols_from outputs 0 (drop at text) ≡ []
+symbols_from-all : (outputs : List (Option (List ℕ))) (text : List ℕ) (at : ℕ) → length text ≤ at → symbols_from outputs 0 (drop at text) ≡ []
 unfolding symbols_from
 symbols_from-all outputs text at e = rw (drop_all at text e) refl
 
@@ -61,7 +61,7 @@ none_before true n m e f = cc
 none_before false n m e f = ltb-false n m e
 
 -- the alternative before the first comma, and those behind it
-pub slice_split-comma : (text : List ℕ) (at k next : ℕ) → position is_comma (drop at text) ≡ Some k → next ≡ at + (k + 1)
+slice_split-comma : (text : List ℕ) (at k next : ℕ) → position is_comma (drop at text) ≡ Some k → next ≡ at + (k + 1)
     → slice_split is_comma (drop at text) ≡ take k (drop at text) ∷ slice_split is_comma (drop next text)
 slice_split-comma text at k next e n =
     let there = found_at _ (position_or_len is_comma (drop at text)) (length (drop at text)) k refl e in
@@ -70,7 +70,7 @@ slice_split-comma text at k next e n =
     let again : drop (k + 1) (drop at text) ≡ drop (at + (k + 1)) text = drop-drop (k + 1) at text in
     parts ∙ rw (place, again, ← n) refl
 
-pub slice_split-no_comma : (text : List ℕ) → position is_comma text ≡ None → slice_split is_comma text ≡ text ∷ []
+slice_split-no_comma : (text : List ℕ) → position is_comma text ≡ None → slice_split is_comma text ≡ text ∷ []
 slice_split-no_comma text e =
     let whole : length text ≤ position_or_len is_comma text = none_before _ (position_or_len is_comma text) (length text) refl e in
     slice_split_none is_comma text (λ k d h. fails_before_first is_comma text k d (omega (arith, whole, h)))
@@ -85,7 +85,7 @@ alternatives-more outputs text rest alternative at k next before made all r e n 
     let found : position is_comma (drop at text) ≡ Some k = subst (λ (xs : List ℕ). position is_comma xs ≡ Some k) r e in
     let step = slice_split-comma text at k next found n in
     let all_of : map (symbols_from outputs 0) (slice_split is_comma (drop at text)) ≡ symbols_from outputs 0 alternative ∷ map (symbols_from outputs 0) (slice_split is_comma (drop next text)) =
-        ap (map (symbols_from outputs 0)) step ∙ rw a refl in
+    ap (map (symbols_from outputs 0)) step ∙ rw a refl in
     rw (m, append_assoc) (rw (← all_of) invariant)
 
 -- the last one
@@ -95,5 +95,5 @@ pub alternatives-last : (outputs : List (Option (List ℕ))) (text rest : List �
 alternatives-last outputs text rest at before made all r e m invariant =
     let found : position is_comma (drop at text) ≡ None = subst (λ (xs : List ℕ). position is_comma xs ≡ None) r e in
     let all_of : map (symbols_from outputs 0) (slice_split is_comma (drop at text)) ≡ symbols_from outputs 0 rest ∷ [] =
-        ap (map (symbols_from outputs 0)) (slice_split-no_comma (drop at text) found) ∙ rw r refl in
+    ap (map (symbols_from outputs 0)) (slice_split-no_comma (drop at text) found) ∙ rw r refl in
     m ∙ rw (← all_of) invariant

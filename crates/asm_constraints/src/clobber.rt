@@ -108,5 +108,8 @@ fn clobber_mark(clobber: &Quoted) -> Mark
 pub fn first_clobber_mark(clobbers: &[Quoted]) -> Option<Mark>
     ensures { result ≡ first_clobber_mark clobbers.now }
 {
-    clobbers.iter().find(|clobber| is_unknown(clobber)).map(clobber_mark)
+    clobbers
+        .iter()
+        .find(|clobber| is_unknown(clobber))
+        .map(clobber_mark)
 }

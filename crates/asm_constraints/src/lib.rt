@@ -13,3 +13,6 @@ mod symbol;
 mod symbol_kind;
 
 pub use statement::interface;
+
+#[cfg(test)]
+mod tests;

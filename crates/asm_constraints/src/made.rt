@@ -13,7 +13,10 @@ use crate::operand::optional_at;
 use crate::range::numbers_of;
 use crate::size::has_letter_for;
 use crate::symbol_kind::{is_early, is_pair_letter};
-use asm_core::{AltIface, ConstrainedOperand, Interface, Items, Kind, Letter, Memory, Operand, OperandIface, Quoted, RegSet, Symbol};
+use asm_core::{
+    AltIface, ConstrainedOperand, Interface, Items, Kind, Letter, Memory, Operand, OperandIface,
+    Quoted, RegSet, Symbol,
+};
 use bitflags::Flags;
 use std::alloc::Global;
 
@@ -69,7 +72,10 @@ fn is_tied_symbol(symbol: Symbol) -> bool
 fn first_tie(alternative: &[Symbol]) -> Option<Symbol>
     ensures { result ≡ find is_tied_symbol alternative.now }
 {
-    alternative.iter().copied().find(|symbol| is_tied_symbol(*symbol))
+    alternative
+        .iter()
+        .copied()
+        .find(|symbol| is_tied_symbol(*symbol))
 }
 
 /// The output that a tie names.
@@ -178,7 +184,12 @@ fn known_in(typed: Option<Operand>) -> Option<i64>
     }
 }
 
-fn flag_operand(alloc: Global, count: usize, size: u32, operand: &ConstrainedOperand) -> Result<OperandIface, Memory>
+fn flag_operand(
+    alloc: Global,
+    count: usize,
+    size: u32,
+    operand: &ConstrainedOperand,
+) -> Result<OperandIface, Memory>
     ensures { IfOk result (λ made. made ≡ flag_operand count size operand.now) }
 {
     Ok(OperandIface {
@@ -191,7 +202,11 @@ fn flag_operand(alloc: Global, count: usize, size: u32, operand: &ConstrainedOpe
     })
 }
 
-fn placed_operand(alloc: Global, size: u32, operand: &ConstrainedOperand) -> Result<OperandIface, Memory>
+fn placed_operand(
+    alloc: Global,
+    size: u32,
+    operand: &ConstrainedOperand,
+) -> Result<OperandIface, Memory>
     ensures { IfOk result (λ made. made ≡ placed_operand size operand.now) }
 {
     let known = known_in(operand.typed);
@@ -201,7 +216,13 @@ fn placed_operand(alloc: Global, size: u32, operand: &ConstrainedOperand) -> Res
         pointer: is_pointer(operand.typed),
         known,
         flag: None,
-        alts: alternatives_of(alloc, operand.output, size, known, operand.alternatives.as_slice())?,
+        alts: alternatives_of(
+            alloc,
+            operand.output,
+            size,
+            known,
+            operand.alternatives.as_slice(),
+        )?,
     })
 }
 

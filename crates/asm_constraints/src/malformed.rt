@@ -11,7 +11,9 @@ use crate::clobber::is_clobbered;
 use crate::operand::is_signed;
 use crate::symbol::has_name;
 use crate::symbol_kind::{is_early, is_letter_of, is_output_mark, is_stray_tie};
-use asm_core::{Cell, ConstrainedOperand, Finding, Items, Memory, Piece, Quoted, Reg, Rule, Symbol};
+use asm_core::{
+    Cell, ConstrainedOperand, Finding, Items, Memory, Piece, Quoted, Reg, Rule, Symbol,
+};
 use std::alloc::Global;
 
 fn is_unsigned_output(operand: &ConstrainedOperand) -> bool
@@ -48,7 +50,9 @@ fn has_own_alternatives(operand: &ConstrainedOperand) -> bool
 fn first_own(operands: &[ConstrainedOperand]) -> Option<&ConstrainedOperand>
     ensures { option_copied result ≡ find has_own_alternatives operands.now }
 {
-    operands.iter().find(|operand| has_own_alternatives(operand))
+    operands
+        .iter()
+        .find(|operand| has_own_alternatives(operand))
 }
 
 /// How many alternatives the statement has: those of the first operand that is no flag output, or one.
@@ -84,7 +88,9 @@ fn has_stray_tie(operand: &ConstrainedOperand) -> bool
 fn first_odd(operands: &[ConstrainedOperand], count: usize) -> Option<&ConstrainedOperand>
     ensures { option_copied result ≡ find (differs_in_count count) operands.now }
 {
-    operands.iter().find(|operand| differs_in_count(count, operand))
+    operands
+        .iter()
+        .find(|operand| differs_in_count(count, operand))
 }
 
 /// Whether the operand has another count of alternatives than those before it, as the first one.
@@ -128,7 +134,9 @@ fn repeats_name(names: &[Option<Items<u8>>], number: usize) -> bool
 fn has_letter_of(register: Reg, alternative: &[Symbol]) -> bool
     ensures { result ≡ list_any (is_letter_of register) alternative.now }
 {
-    alternative.iter().any(|symbol| is_letter_of(register, *symbol))
+    alternative
+        .iter()
+        .any(|symbol| is_letter_of(register, *symbol))
 }
 
 /// Whether the symbol is `&` or the letter of that register alone.
@@ -141,7 +149,9 @@ fn is_early_or_letter_of(register: Reg, symbol: Symbol) -> bool
 fn has_no_other(register: Reg, alternative: &[Symbol]) -> bool
     ensures { result ≡ list_all (is_early_or_letter_of register) alternative.now }
 {
-    alternative.iter().all(|symbol| is_early_or_letter_of(register, *symbol))
+    alternative
+        .iter()
+        .all(|symbol| is_early_or_letter_of(register, *symbol))
 }
 
 /// Whether the alternative is the letter of that register and nothing else but `&`.

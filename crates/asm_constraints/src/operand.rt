@@ -198,7 +198,11 @@ fn name_of(alloc: Global, part: &Part) -> Result<Option<Items<u8>>, Memory>
     }
 }
 
-fn append_names(alloc: Global, names: &mut Items<Option<Items<u8>>>, parts: &[Part]) -> Result<(), Memory>
+fn append_names(
+    alloc: Global,
+    names: &mut Items<Option<Items<u8>>>,
+    parts: &[Part],
+) -> Result<(), Memory>
     ensures { OnOk result (names.new ≡ names.old ++ names_of parts.now) }
 {
     for part in parts {

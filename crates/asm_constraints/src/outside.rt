@@ -139,5 +139,8 @@ fn constraint_mark(operand: &ConstrainedOperand) -> Mark
 pub fn first_constraint_mark(operands: &[ConstrainedOperand]) -> Option<Mark>
     ensures { result ≡ first_constraint_mark operands.now }
 {
-    operands.iter().find(|operand| is_constraint_outside(operands, operand)).map(constraint_mark)
+    operands
+        .iter()
+        .find(|operand| is_constraint_outside(operands, operand))
+        .map(constraint_mark)
 }

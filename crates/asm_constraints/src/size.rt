@@ -27,7 +27,9 @@ fn alternative_at(operand: &ConstrainedOperand, a: usize) -> &[Symbol]
 pub fn has_letter_for(output: bool, kind: Kind, symbols: &[Symbol]) -> bool
     ensures { result ≡ list_any (is_letter_for output kind) symbols.now }
 {
-    symbols.iter().any(|symbol| is_letter_for(output, kind, *symbol))
+    symbols
+        .iter()
+        .any(|symbol| is_letter_for(output, kind, *symbol))
 }
 
 /// Whether some symbol ties to the operand of that number.
@@ -41,7 +43,8 @@ fn has_tie_to(number: u8, symbols: &[Symbol]) -> bool
 fn tie_allows(kind: Kind, a: usize, alternative: &[Symbol], operand: &ConstrainedOperand) -> bool
     ensures { result ≡ tie_allows kind a alternative.now operand.now }
 {
-    has_tie_to(operand.number, alternative) && has_letter_for(operand.output, kind, alternative_at(operand, a))
+    has_tie_to(operand.number, alternative)
+        && has_letter_for(operand.output, kind, alternative_at(operand, a))
 }
 
 /// Whether some tie of an alternative names an operand that allows the kind there.
@@ -53,7 +56,9 @@ fn some_tie_allows(
 ) -> bool
     ensures { result ≡ list_any (tie_allows kind a alternative.now) operands.now }
 {
-    operands.iter().any(|operand| tie_allows(kind, a, alternative, operand))
+    operands
+        .iter()
+        .any(|operand| tie_allows(kind, a, alternative, operand))
 }
 
 /// Whether the alternative allows the kind, by its letters or its ties.
@@ -76,12 +81,13 @@ fn operand_allows(operands: &[ConstrainedOperand], kind: Kind, operand: &Constra
     ensures { result ≡ operand_allows operands.now kind operand.now }
 {
     let output = operand.output;
-    operand
-        .alternatives
-        .as_slice()
-        .iter()
-        .enumerate()
-        .any(|(a, alternative)| alternative_allows(operands, output, kind, a, alternative.as_slice()))
+    operand.alternatives.as_slice().iter().enumerate().any(|(a, alternative)| alternative_allows(
+        operands,
+        output,
+        kind,
+        a,
+        alternative.as_slice(),
+    ))
 }
 
 /// Whether some letter of the operand is `A`.
@@ -131,20 +137,15 @@ fn allows_memory(operands: &[ConstrainedOperand], operand: &ConstrainedOperand) 
 fn allows_another(operands: &[ConstrainedOperand], operand: &ConstrainedOperand) -> bool
     ensures { result ≡ allows_another operands.now operand.now }
 {
-    operand_allows(operands, Kind::Register, operand) || operand_allows(operands, Kind::Number, operand)
+    operand_allows(operands, Kind::Register, operand)
+        || operand_allows(operands, Kind::Number, operand)
 }
 
 fn size_of_typed(memory_alone: bool, typed: Option<Operand>) -> Option<u32>
     ensures { result ≡ size_of_typed memory_alone typed }
 {
     match typed {
-        Some(typed) => {
-            if memory_alone {
-                typed.own
-            } else {
-                typed.value
-            }
-        }
+        Some(typed) => { if memory_alone { typed.own } else { typed.value } }
         None => None,
     }
 }
@@ -214,7 +215,9 @@ fn changes_size(typed: Option<Operand>) -> bool
 fn is_ambiguous(operands: &[ConstrainedOperand], operand: &ConstrainedOperand) -> bool
     ensures { result ≡ is_ambiguous operands.now operand.now }
 {
-    changes_size(operand.typed) && allows_memory(operands, operand) && allows_another(operands, operand)
+    changes_size(operand.typed)
+        && allows_memory(operands, operand)
+        && allows_another(operands, operand)
 }
 
 fn is_out_of_range(size: u32) -> bool
@@ -234,7 +237,9 @@ fn is_tied_input(number: u8, a: usize, operand: &ConstrainedOperand) -> bool
 fn has_tied_input(operands: &[ConstrainedOperand], number: u8, a: usize) -> bool
     ensures { result ≡ has_tied_input operands.now number a }
 {
-    operands.iter().any(|operand| is_tied_input(number, a, operand))
+    operands
+        .iter()
+        .any(|operand| is_tied_input(number, a, operand))
 }
 
 /// Whether an alternative lets the operand be in memory and ties no input to it.
@@ -246,19 +251,20 @@ fn lets_write_alone(
 ) -> bool
     ensures { result ≡ lets_write_alone operands.now number a alternative.now }
 {
-    alternative_allows(operands, true, Kind::Memory, a, alternative) && !has_tied_input(operands, number, a)
+    alternative_allows(operands, true, Kind::Memory, a, alternative)
+        && !has_tied_input(operands, number, a)
 }
 
 #[tactic(auto, unfolding(asm_core::specs::Size::may_be_written_alone))]
 fn may_be_written_alone(operands: &[ConstrainedOperand], operand: &ConstrainedOperand) -> bool
     ensures { result ≡ may_be_written_alone operands.now operand.now }
 {
-    operand
-        .alternatives
-        .as_slice()
-        .iter()
-        .enumerate()
-        .any(|(a, alternative)| lets_write_alone(operands, operand.number, a, alternative.as_slice()))
+    operand.alternatives.as_slice().iter().enumerate().any(|(a, alternative)| lets_write_alone(
+        operands,
+        operand.number,
+        a,
+        alternative.as_slice(),
+    ))
 }
 
 #[tactic(auto, unfolding(asm_core::specs::Size::is_wide_output))]
@@ -276,7 +282,8 @@ fn is_mismatched_output(
 ) -> bool
     ensures { result ≡ is_mismatched_output sizes.now size operand.now output.now }
 {
-    !is_same_size(optional_at(sizes, output.number as usize), Some(size)) && is_tied_to(output.number, operand)
+    !is_same_size(optional_at(sizes, output.number as usize), Some(size))
+        && is_tied_to(output.number, operand)
 }
 
 /// Whether the operand is tied to an output of another size.
@@ -349,5 +356,8 @@ pub fn first_operand_mark(operands: &[ConstrainedOperand], sizes: &[Option<u32>]
     requires { sizes.now ≡ sizes_of operands.now }
     ensures { result ≡ first_operand_mark operands.now }
 {
-    operands.iter().find(|operand| is_operand_outside(operands, sizes, operand)).map(operand_mark)
+    operands
+        .iter()
+        .find(|operand| is_operand_outside(operands, sizes, operand))
+        .map(operand_mark)
 }

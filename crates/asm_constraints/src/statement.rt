@@ -15,7 +15,9 @@ use crate::malformed::malformed_findings;
 use crate::operand::{constrained_operands, names};
 use crate::outside::first_constraint_mark;
 use crate::size::{first_operand_mark, sizes};
-use asm_core::{ConstrainedOperand, IfaceEnd, Interface, Items, Mark, MarkKind, Operand, Parts, Quoted};
+use asm_core::{
+    ConstrainedOperand, IfaceEnd, Interface, Items, Mark, MarkKind, Operand, Parts, Quoted,
+};
 use asm_template::{ScanEnd, Scanned, scan};
 use std::alloc::Global;
 
@@ -29,11 +31,18 @@ fn or_else(mark: Option<Mark>, other: Option<Mark>) -> Option<Mark>
 }
 
 /// The first mark but for the template's; `sizes` are those of the operands.
-fn first_mark(clobbers: &[Quoted], operands: &[ConstrainedOperand], sizes: &[Option<u32>]) -> Option<Mark>
+fn first_mark(
+    clobbers: &[Quoted],
+    operands: &[ConstrainedOperand],
+    sizes: &[Option<u32>],
+) -> Option<Mark>
     requires { sizes.now ≡ sizes_of operands.now }
     ensures { result ≡ first_mark clobbers.now operands.now }
 {
-    let behind_clobbers = or_else(first_operand_mark(operands, sizes), first_constraint_mark(operands));
+    let behind_clobbers = or_else(
+        first_operand_mark(operands, sizes),
+        first_constraint_mark(operands),
+    );
     or_else(first_clobber_mark(clobbers), behind_clobbers)
 }
 
@@ -95,7 +104,13 @@ fn interface_said(
 {
     let names = names(alloc, parts)?;
     let constrained = constrained_operands(alloc, parts, names.as_slice(), operands)?;
-    interface_in(alloc, parts, strict, constrained.as_slice(), names.as_slice())
+    interface_in(
+        alloc,
+        parts,
+        strict,
+        constrained.as_slice(),
+        names.as_slice(),
+    )
 }
 
 /// What a statement tells the compiler of its operands and of what it changes (GCC manual, "Extended Asm" and

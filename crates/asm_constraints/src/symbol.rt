@@ -86,7 +86,9 @@ fn number_of(first: u8, digits: &[u8]) -> u8
 {
     let mut number = first.saturating_sub(b'0');
     for digit in digits {
-        number = number.saturating_mul(10).saturating_add(digit.saturating_sub(b'0'));
+        number = number
+            .saturating_mul(10)
+            .saturating_add(digit.saturating_sub(b'0'));
     }
     number
 }
@@ -128,7 +130,10 @@ fn bracketed(outputs: &[Option<Items<u8>>], behind: &[u8]) -> (Symbol, usize)
     ensures within { result.1 ≤ length behind.now }
 {
     match closing_bracket(behind) {
-        Some(close) => (Symbol::Tie(output_named(outputs, &behind[..close])), close + 1),
+        Some(close) => (
+            Symbol::Tie(output_named(outputs, &behind[..close])),
+            close + 1,
+        ),
         None => (Symbol::Other, behind.len()),
     }
 }
@@ -152,7 +157,11 @@ fn symbol_at(outputs: &[Option<Items<u8>>], first: u8, behind: &[u8]) -> (Symbol
 }
 
 /// The symbols of one alternative.
-fn symbols(alloc: Global, outputs: &[Option<Items<u8>>], text: &[u8]) -> Result<Items<Symbol>, Memory>
+fn symbols(
+    alloc: Global,
+    outputs: &[Option<Items<u8>>],
+    text: &[u8],
+) -> Result<Items<Symbol>, Memory>
     requires { length outputs.now ≤ 30 }
     ensures { IfOk result (λ made. made ≡ symbols_from outputs.now 0 text.now) }
 {

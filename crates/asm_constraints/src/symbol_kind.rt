@@ -30,7 +30,8 @@ pub fn is_letter_for(output: bool, kind: Kind, symbol: Symbol) -> bool
     ensures { result ≡ is_letter_for output kind symbol }
 {
     match symbol {
-        Symbol::Letter(letter) => letter_allows(kind, letter) && !(output && matches!(kind, Kind::Number)),
+        Symbol::Letter(letter) => letter_allows(kind, letter)
+            && !(output && matches!(kind, Kind::Number)),
         _ => false,
     }
 }
@@ -46,7 +47,8 @@ pub fn is_word_letter(output: bool, symbol: Symbol) -> bool
     ensures { result ≡ is_word_letter output symbol }
 {
     !is_pair_letter(symbol)
-        && (is_letter_for(output, Kind::Register, symbol) || is_letter_for(output, Kind::Number, symbol))
+        && (is_letter_for(output, Kind::Register, symbol)
+            || is_letter_for(output, Kind::Number, symbol))
 }
 
 /// Whether the symbol ties to the operand of that number.

@@ -2,6 +2,7 @@
 mod Bytes
 mod Changing
 mod Entries
+mod Interfaces
 mod Machines
 mod Numbers
 mod Pieces

@@ -6,11 +6,11 @@ use Rattle.asm_constraints.proofs.symbol.alternatives.Goals as goal
 
 pub loop-comma-preserved : goal.loop-comma-preserved
 loop-comma-preserved c =
-  let same_end : c.loop-comma.at + c.in-Some.comma - c.loop-comma.at ≡ c.in-Some.comma = omega arith in record {
-  within = grind arith;
-  same = alternatives-more c.args.outputs.now c.args.text.now _ _ c.loop-comma.at c.in-Some.comma _ _ _ _ (take_rest c.args.text.now c.loop-comma.at) (sym c.in-Some.ensures.is) refl
-      (ap (λ n. take n (drop c.loop-comma.at c.args.text.now)) same_end) (grind arith) c.loop-comma.invariant.same;
-}
+    let same_end : c.loop-comma.at + c.in-Some.comma - c.loop-comma.at ≡ c.in-Some.comma = omega arith in record {
+      within = grind arith;
+      same = alternatives-more c.args.outputs.now c.args.text.now _ _ c.loop-comma.at c.in-Some.comma _ _ _ _ (take_rest c.args.text.now c.loop-comma.at) (sym c.in-Some.ensures.is) refl
+          (ap (λ n. take n (drop c.loop-comma.at c.args.text.now)) same_end) (grind arith) c.loop-comma.invariant.same;
+    }
 
 pub returns : goal.returns
 unfolding alternatives_in
