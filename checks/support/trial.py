@@ -1,5 +1,6 @@
 """Programs over this repository's crates, built without a proof by `rt try`."""
 import pathlib
+import re
 import shutil
 import subprocess
 
@@ -17,15 +18,24 @@ def program_in(folder, name, crates):
     return code.parent
 
 
-def told(crate, cases):
-    """What the program prints of each file in the folder, by its name."""
-    done = subprocess.run(["rt", "try", "--cases", str(cases), "--", "{}"], cwd=crate, text=True, capture_output=True)
+def tried(crate, cases, *words):
+    """What the crate's program prints of each file in the folder `cases`, and its status, by the file's name.
+
+    A word `{}` stands for the file, which the program knows by the name `case`.
+    """
+    done = subprocess.run(["rt", "try", "--cases", str(cases), "--", *words], cwd=crate, text=True, capture_output=True)
     found, lines = {}, None
     for line in done.stdout.splitlines():
         if line.startswith("== "):
-            lines = found.setdefault(line.split()[1], [])
+            lines = found.setdefault(line.removeprefix("== "), [])
         elif lines is not None and line:
             lines.append(line)
-    if not found:
+    statuses = dict(re.findall(r"^case=(.+) run=ended status=(\d+)", done.stderr, re.M))
+    if not statuses:
         print(done.stdout[-2000:], done.stderr[-2000:])
-    return found
+    return {name: (found.get(name, []), int(status)) for name, status in statuses.items()}
+
+
+def told(crate, cases):
+    """What the program prints of each file in the folder, by its name."""
+    return {name: lines for name, (lines, _) in tried(crate, cases, "{}").items()}
