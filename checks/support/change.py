@@ -1,0 +1,56 @@
+"""What the working tree has that a base revision has not."""
+import pathlib
+import re
+import subprocess
+
+from support.trial import ROOT
+
+
+def git(*words):
+    return subprocess.run(["git", *words], cwd=ROOT, text=True, capture_output=True, check=True).stdout
+
+
+def default_base():
+    """Where this branch left origin's; the commit before the last where nothing came since, in a clone without changes."""
+    try:
+        base = git("merge-base", "HEAD", "origin/HEAD").strip()
+    except subprocess.CalledProcessError:
+        base = git("rev-parse", "HEAD").strip()
+    if git("status", "--porcelain") or base != git("rev-parse", "HEAD").strip():
+        return base
+    return git("rev-parse", "HEAD~1").strip()
+
+
+class Change:
+    """The files that were changed or added since the base, with the numbers of the lines that are new in each."""
+
+    def __init__(self, base):
+        self.base = base
+        self.added = {}
+        file = None
+        for line in git("diff", "--unified=0", "--no-renames", "--no-color", base).splitlines():
+            if line.startswith("+++ "):
+                file = pathlib.Path(line[6:]) if line.startswith("+++ b/") else None
+                if file:
+                    self.added[file] = set()
+            part = re.match(r"@@ -\S+ \+(\d+)(?:,(\d+))? @@", line)
+            if part and file:
+                first, count = int(part[1]), int(part[2] or 1)
+                self.added[file] |= set(range(first, first + count))
+        for name in git("ls-files", "--others", "--exclude-standard").splitlines():
+            file = pathlib.Path(name)
+            self.added[file] = set(range(1, len(read(file)) + 1))
+
+    def crates(self):
+        """The changed crates, in the order of crates.txt."""
+        changed = {file.parts[1] for file in self.added if file.parts[0] == "crates" and len(file.parts) > 2}
+        listed = re.findall(r"^(\w+)[^\n:]*:", (ROOT / "crates.txt").read_text(), re.M)
+        return [crate for crate in listed if crate in changed and (ROOT / "crates" / crate).is_dir()]
+
+
+def read(file):
+    """The lines of a text file of the repository, none where it is no text."""
+    try:
+        return (ROOT / file).read_text().splitlines()
+    except UnicodeDecodeError:
+        return []
