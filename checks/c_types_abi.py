@@ -1,9 +1,9 @@
 #!/usr/bin/env python3
 """Asks gcc -m32 for the sizes, alignments and offsets that the tests of c_types have.
 
-It reads the tables of crates/c_types/src/tests/rows.rt. A row with values has to hold by static
-assertions, and gcc has to refuse a row without. Both sizes are the same. Status 0 where all agree, 77 where there is no gcc
-for -m32, else 1.
+It reads the tables of crates/c_types/src/tests/rows.rt. A row with values has to hold by static assertions, and gcc
+has to refuse a row without. Both sizes are the same. Status 0 where all agree, 77 where there is no gcc for -m32,
+else 1.
 """
 import pathlib
 import re

@@ -1,9 +1,9 @@
 #!/usr/bin/env python3
 """Compares what asmck prints of each file in examples/, and its status, with the file's .expected beside it.
 
-The last line of examples/NAME.expected is `status N`; the lines before are what `asmck check examples/NAME.c` prints. It
-takes the proved program where that is built, else the build of `rt try` without a proof, in half a minute. Both sizes are
-the same. Status 0 where all agree, else 1.
+The last line of examples/NAME.expected is `status N`; the lines before are what `asmck check examples/NAME.c` prints.
+It takes the proved program where that is built, else the build of `rt try` without a proof, in half a minute. Both
+sizes are the same. Status 0 where all agree, else 1.
 """
 import pathlib
 import shutil

@@ -1,9 +1,9 @@
 #!/usr/bin/env python3
 """Compares the table of expressions in crates/c_exprs/src/tests/rows.rt with gcc -m32.
 
-Each row's size and, where it is a constant, its number become static assertions that gcc has to accept. Expressions without
-a type in asmck's profile aren't asked: gcc knows more. Both sizes are the same. Status 0 where all agree, 77 where there is
-no gcc for -m32, else 1.
+Each row's size and, where it is a constant, its number become static assertions that gcc has to accept. Expressions
+without a type in asmck's profile aren't asked: gcc knows more. Both sizes are the same. Status 0 where all agree, 77
+where there is no gcc for -m32, else 1.
 """
 import ast
 import pathlib
@@ -15,7 +15,8 @@ from support.compiler import accepts, demand_gcc
 
 ROWS = pathlib.Path(__file__).resolve().parent.parent / "crates/c_exprs/src/tests/rows.rt"
 ROW = re.compile(
-    r'\(\s*("(?:[^"\\]|\\.)*"),\s*(None|Some\(-?\d+\)),\s*(None|Some\(-?\d+\)),\s*(true|false),\s*(None|Some\(-?\d+\)),?\s*\)'
+    r'\(\s*("(?:[^"\\]|\\.)*"),\s*(None|Some\(-?\d+\)),\s*(None|Some\(-?\d+\)),'
+    r"\s*(true|false),\s*(None|Some\(-?\d+\)),?\s*\)"
 )
 SIGNED = {1: "signed char", 2: "short", 4: "int", 8: "long long"}
 

@@ -1,10 +1,10 @@
 #!/usr/bin/env python3
 """Runs asmck on two files that this machine's compiler has preprocessed from its own headers.
 
-The first has headers and no statement: asmck says nothing and ends with 0, though the headers have asm labels. The second has
-two basic asm statements behind headers: asmck says at which place each is undecided and ends with 3. It takes the proved
-program where that is built, else the build of `rt try` without a proof, in half a minute. Both sizes are the same. Status 0
-where asmck answers so, 77 where there is no gcc that preprocesses these for -m32, else 1.
+The first has headers and no statement: asmck says nothing and ends with 0, though the headers have asm labels. The
+second has two basic asm statements behind headers: asmck says at which place each is undecided and ends with 3. It
+takes the proved program where that is built, else the build of `rt try` without a proof, in half a minute. Both sizes
+are the same. Status 0 where asmck answers so, 77 where there is no gcc that preprocesses these for -m32, else 1.
 """
 import pathlib
 import sys

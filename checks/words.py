@@ -1,10 +1,11 @@
 #!/usr/bin/env python3
-"""Compares what c_words gives the tokens of short texts with tables that were written by hand, and its keywords with gcc's.
+"""Compares what c_words gives the tokens of short texts with tables that were written by hand, and its keywords with
+gcc's.
 
-A small program over c_words, built without a proof by `rt try`, prints for each token its word, its span and what closes it.
-A spelling that has a word of its own has to be a keyword of gcc -m32 too, and a plain name none; the words of other versions
-of C and of other targets are left out there. Both sizes are the same. Status 0 where all agree, 77 where all but gcc was
-asked, since there is none for -m32, else 1.
+A small program over c_words, built without a proof by `rt try`, prints for each token its word, its span and what
+closes it. A spelling that has a word of its own has to be a keyword of gcc -m32 too, and a plain name none; the words
+of other versions of C and of other targets are left out there. Both sizes are the same. Status 0 where all agree, 77
+where all but gcc was asked, since there is none for -m32, else 1.
 """
 import pathlib
 import sys
@@ -51,9 +52,10 @@ ALIKE = [
 # The same for words that aren't gcc's in this version of C or for this target, or that no name is.
 ASMCK_ALONE = [
     ("VaList", "__builtin_va_list"),
-    ("Uncovered", "_Atomic _Thread_local __thread _Alignas _Complex __complex __complex__ _Imaginary __int128 __int128_t"),
-    ("Uncovered", "__uint128_t __auto_type __signed __attribute __label__ _BitInt"),
-    ("Uncovered", "typeof_unqual __typeof_unqual __typeof_unqual__ _Float16 _Float128x __float80 __float128 _Decimal32"),
+    ("Uncovered", "_Atomic _Thread_local __thread _Alignas _Complex __complex __complex__ _Imaginary"),
+    ("Uncovered", "__int128 __int128_t __uint128_t __auto_type __signed __attribute __label__ _BitInt"),
+    ("Uncovered", "typeof_unqual __typeof_unqual __typeof_unqual__"),
+    ("Uncovered", "_Float16 _Float128x __float80 __float128 _Decimal32"),
     ("Number", "0 .5 1e+3 0x1p-2"),
     ("Char", r"'a' L'b' u8'\''"),
     ("Text", r'"" "u\""'),
@@ -73,8 +75,9 @@ EACH = [
 PLACED = [
     (
         'f(a[1]){g();} asm("x")y',
-        """0-1/1>1 n|1-2/1>7 )6|2-3/1>3 n|3-4/1>6 )5|4-5/1>5|5-6/1>6|6-7/1>7|7-8/1>13 )12|8-9/1>9 n|9-10/1>11 )10|10-11/1>11
-11-12/1>12|12-13/1>13|14-17/3>14 a17 n|17-18/1>17 )16|18-21/3>16|21-22/1>17|22-23/1>18 n|23-23/0>18|23-23/0>19""",
+        """0-1/1>1 n|1-2/1>7 )6|2-3/1>3 n|3-4/1>6 )5|4-5/1>5|5-6/1>6|6-7/1>7|7-8/1>13 )12|8-9/1>9 n|9-10/1>11 )10
+10-11/1>11|11-12/1>12|12-13/1>13|14-17/3>14 a17 n|17-18/1>17 )16|18-21/3>16|21-22/1>17|22-23/1>18 n|23-23/0>18
+23-23/0>19""",
     ),
     ("asm asm[0]", "0-3/3>1 n|4-7/3>2 n|7-8/1>5 )4|8-9/1>4|9-10/1>5|10-10/0>5|10-10/0>6"),
     ("  ", "2-2/0>0|2-2/0>1"),

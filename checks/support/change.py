@@ -11,7 +11,7 @@ def git(*words):
 
 
 def default_base():
-    """Where this branch left origin's; the commit before the last where nothing came since, in a clone without changes."""
+    """Where this branch left origin's; in a clone where nothing came since, the commit before the last."""
     try:
         base = git("merge-base", "HEAD", "origin/HEAD").strip()
     except subprocess.CalledProcessError:
@@ -26,26 +26,34 @@ class Change:
 
     def __init__(self, base):
         self.base = base
-        self.added = {}
-        file = None
-        for line in git("diff", "--unified=0", "--no-renames", "--no-color", base).splitlines():
-            if line.startswith("+++ "):
-                file = pathlib.Path(line[6:]) if line.startswith("+++ b/") else None
-                if file:
-                    self.added[file] = set()
-            part = re.match(r"@@ -\S+ \+(\d+)(?:,(\d+))? @@", line)
-            if part and file:
-                first, count = int(part[1]), int(part[2] or 1)
-                self.added[file] |= set(range(first, first + count))
+        removed = git("diff", "--name-only", "--diff-filter=D", "--no-renames", base).splitlines()
+        self.removed = [pathlib.Path(name) for name in removed]
+        self.added = added_lines(git("diff", "--unified=0", "--no-renames", "--no-color", base))
         for name in git("ls-files", "--others", "--exclude-standard").splitlines():
             file = pathlib.Path(name)
             self.added[file] = set(range(1, len(read(file)) + 1))
 
     def crates(self):
-        """The changed crates, in the order of crates.txt."""
-        changed = {file.parts[1] for file in self.added if file.parts[0] == "crates" and len(file.parts) > 2}
+        """The crates with a change in what a check reads, in the order of crates.txt."""
+        files = (file.parts for file in [*self.added, *self.removed] if file.parts[0] == "crates")
+        changed = {parts[1] for parts in files if parts[2:3] in [("src",), ("specs",), ("proofs",)]}
         listed = re.findall(r"^(\w+)[^\n:]*:", (ROOT / "crates.txt").read_text(), re.M)
         return [crate for crate in listed if crate in changed and (ROOT / "crates" / crate).is_dir()]
+
+
+def added_lines(diff):
+    """The numbers of the lines that a diff without context adds, by the file."""
+    added, file = {}, None
+    for line in diff.splitlines():
+        if line.startswith("+++ "):
+            file = pathlib.Path(line[6:]) if line.startswith("+++ b/") else None
+            if file:
+                added[file] = set()
+        part = re.match(r"@@ -\S+ \+(\d+)(?:,(\d+))? @@", line)
+        if part and file:
+            first, count = int(part[1]), int(part[2] or 1)
+            added[file] |= set(range(first, first + count))
+    return added
 
 
 def read(file):

@@ -16,7 +16,7 @@ def is_code(file):
 
 
 def broken(change):
-    """A line for each limit that the change breaks: of lines that are new, of functions with new lines, of changed files."""
+    """A line for each limit that is broken: by lines that are new, functions with new lines, and changed files."""
     for file, added in sorted(change.added.items()):
         if not is_code(file):
             continue
@@ -42,22 +42,19 @@ def broken_functions(file, lines, added):
 
 
 def functions(lines):
-    """The functions of a file in rt fmt's layout: line, name, number of parameters beside self, and the lines of the body."""
+    """The functions of a file in rt fmt's layout: line, name, number of parameters beside self, lines of the body."""
     for at, line in enumerate(lines):
         head = FUNCTION.match(line)
         if not head:
             continue
         indent = head[1]
-        opens = next((k for k in range(at, len(lines)) if re.match(indent + r"\S", lines[k]) and ends_head(lines[k])), at)
+        outer = (k for k in range(at, len(lines)) if re.match(indent + r"\S", lines[k]))
+        opens = next((k for k in outer if lines[k].endswith(("{", "}", ";"))), at)
         closes = opens
         if lines[opens].endswith("{"):
             closes = next((k for k in range(opens, len(lines)) if lines[k] == indent + "}"), opens)
         # Numbers of lines are from 1, so the first line of the body is opens + 2.
         yield at + 1, head[0].split()[-1], parameters_in(" ".join(lines[at : opens + 1])), range(opens + 2, closes + 1)
-
-
-def ends_head(line):
-    return line.endswith(("{", "}", ";"))
 
 
 def parameters_in(head):

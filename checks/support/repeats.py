@@ -11,13 +11,13 @@ ENDINGS = (".rt", ".antt")
 def told(change, folder):
     """The tool's rows, each a place to look and no verdict; None where there is no such tool.
 
-    It reads files by their endings and knows neither of this project's, so it gets a copy with others: the base as a commit,
-    and the working tree over it.
+    It reads files by their endings and knows neither of this project's, so it gets a copy with others: the base as a
+    commit, and the working tree over it.
     """
     if not shutil.which("duplicates"):
         return None
-    archive = subprocess.run(["git", "archive", change.base, "crates"], cwd=ROOT, capture_output=True, check=True).stdout
-    subprocess.run(["tar", "-x", "-C", folder], input=archive, check=True)
+    packed = subprocess.run(["git", "archive", change.base, "crates"], cwd=ROOT, capture_output=True, check=True)
+    subprocess.run(["tar", "-x", "-C", folder], input=packed.stdout, check=True)
     rename(folder)
     quiet = {"cwd": folder, "check": True, "capture_output": True}
     subprocess.run(["git", "init", "--quiet", "."], **quiet)
