@@ -5,6 +5,3 @@ pub mod expression;
 mod reading;
 
 pub use reading::{operand, operand_in, token_from};
-
-#[cfg(test)]
-mod tests;

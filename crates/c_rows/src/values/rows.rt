@@ -1,7 +1,7 @@
 //! Constants as `gcc -m32` computes them, like those of `binary_rows`.
 
 use super::binary_rows::Number::{self, B, I1, I2, I4, I8, U1, U2, U4, U8};
-use crate::Unary;
+use c_values::Unary;
 
 /// An operator, with its operand and the result.
 pub static UNARY: [(Unary, Number, Number); 36] = [

@@ -1,9 +1,9 @@
 //! Values for the tests, and values in words.
 
 use super::binary_rows::Number;
-use crate::{Constant, TypeEnd, Value};
 use asm_core::Memory;
 use c_types::CType;
+use c_values::{Constant, TypeEnd, Value};
 use std::alloc::{AllocError, Global};
 use std::test::Fail;
 

@@ -1,6 +1,6 @@
 //! What the operators give of sample operands, worked out by hand from C11.
 
-use crate::{Binary, Calculation, Comparison, Logic, Shift, Unary};
+use c_values::{Binary, Calculation, Comparison, Logic, Shift, Unary};
 
 /// An operand of one of these types, a variable where nothing else is said.
 #[derive(Clone, Copy, Debug)]

@@ -3,10 +3,14 @@ mod cases;
 mod rows;
 mod told;
 
-use super::*;
 use asm_core::{Items, Memory};
 use binary_rows::{BINARY, Number};
 use c_types::{CType, Layout, Tag, Tags};
+use c_values::{
+    TypeEnd, Value, address_of, assignment_of, binary_of, call_of, cast_of, character_constant,
+    comma_of, compound_of, conditional_of, dereference_of, index_of, integer_constant, member_of,
+    pointed_member_of, sizeof_of, step_of, string_literal, unary_of,
+};
 use cases::{CASES, Case, Sample};
 use rows::{CASTS, CHOICES, UNARY};
 use std::alloc::Global;

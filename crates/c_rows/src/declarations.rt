@@ -1,7 +1,7 @@
 mod hidden_rows;
 mod rows;
 
-use super::*;
+use c_decls::{NameKind, Scopes, name_kind, scopes, tagged, visible};
 use c_tokens::tokens;
 use c_types::{CType, Tags, size_of};
 use hidden_rows::{BODIES, UNCOVERED};

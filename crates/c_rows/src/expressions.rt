@@ -1,10 +1,10 @@
 mod rows;
 
-use super::*;
 use asm_core::Span;
 use c_decls::scopes;
+use c_exprs::expression::Operand;
+use c_exprs::operand;
 use c_tokens::tokens;
-use expression::Operand;
 use rows::{DECLARATIONS, FIRST, NONE, Row, SECOND};
 use std::alloc::{AllocError, Global};
 use std::process::Abort;

@@ -4,7 +4,7 @@ use Rattle.std.proofs.lemmas.List.Elements.{All-push, All-same}
 use Rattle.c_types.specs.declared.tag.Tag.{Tag}
 use Rattle.c_types.specs.declared.tag.Layout.{Layout}
 use Rattle.c_types.specs.Extents.{IsAlignment}
-use Rattle.c_types.proofs.tests.declare.Goals as goal
+use Rattle.c_rows.proofs.layouts.declare.Goals as goal
 
 for_some : (P : Layout → Type 0) (o : Option Layout) → IfSome o P → ForSome o P
 for_some P None p = λ x e. cc

@@ -1,6 +1,6 @@
 //! Constants as `gcc -m32` computes them: operators and operands drawn at random, each as a static initialiser.
 
-use crate::{Binary, Calculation, Comparison, Logic, Shift};
+use c_values::{Binary, Calculation, Comparison, Logic, Shift};
 
 /// A number of a type.
 #[derive(Clone, Copy, Debug, PartialEq, Eq)]

@@ -3,8 +3,10 @@ mod rows;
 ghost use Rattle.std.specs.Prelude.{OnOk};
 ghost use Rattle.c_types.specs.Extents.{AllAligned};
 
-use super::*;
 use asm_core::{Items, Memory};
+use c_types::{
+    CType, Extent, Layout, NO_BODY, Tag, Tags, align_of, extent_of, last_extent_of, layout, size_of,
+};
 use rows::{Base, Member, NAMED, Named, ROWS, Row};
 use std::alloc::Global;
 
