@@ -28,7 +28,7 @@ class Change:
         self.base = base
         removed = git("diff", "--name-only", "--diff-filter=D", "--no-renames", base).splitlines()
         self.removed = [pathlib.Path(name) for name in removed]
-        self.added = added_lines(git("diff", "--unified=0", "--no-renames", "--no-color", base))
+        self.added = added_lines(git("diff", "--unified=0", "--find-renames", "--no-color", base))
         for name in git("ls-files", "--others", "--exclude-standard").splitlines():
             file = pathlib.Path(name)
             self.added[file] = set(range(1, len(read(file)) + 1))
@@ -37,8 +37,21 @@ class Change:
         """The crates with a change in what a check reads, in the order of crates.txt."""
         files = (file.parts for file in [*self.added, *self.removed] if file.parts[0] == "crates")
         changed = {parts[1] for parts in files if parts[2:3] in [("src",), ("specs",), ("proofs",)]}
-        listed = re.findall(r"^(\w+)[^\n:]*:", (ROOT / "crates.txt").read_text(), re.M)
-        return [crate for crate in listed if crate in changed and (ROOT / "crates" / crate).is_dir()]
+        return [crate for crate in libraries() if crate in changed and (ROOT / "crates" / crate).is_dir()]
+
+
+def libraries():
+    """Each crate of crates.txt with the libraries that its line names."""
+    lines = re.findall(r"^(\w+)[^\n:]*:(.*)", (ROOT / "crates.txt").read_text(), re.M)
+    return {crate: below.split() for crate, below in lines}
+
+
+def stand_over(crates):
+    """These crates and all above them, in the order of crates.txt."""
+    below, found = libraries(), set(crates)
+    while more := {crate for crate in below if found.intersection(below[crate])} - found:
+        found |= more
+    return [crate for crate in below if crate in found]
 
 
 def added_lines(diff):

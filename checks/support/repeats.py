@@ -32,7 +32,7 @@ def told(change, folder):
     rename(folder)
     command = ["duplicates", "--change", "--min-lines", "8", "--most", "8", "--seconds", "20"]
     rows = subprocess.run(command, cwd=folder, text=True, capture_output=True).stdout.splitlines()
-    return [original(row) for row in rows if row.startswith("D")]
+    return [original(row) for row in rows if row.startswith("D") and "boilerplate" not in row]
 
 
 def rename(folder):

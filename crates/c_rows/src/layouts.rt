@@ -88,9 +88,8 @@ fn lays_out_structs_unions_and_arrays(rt: HostRuntime) -> Result<(), Memory> {
     Ok(())
 }
 
-#[test]
-fn knows_a_struct_from_the_end_of_its_body_on(rt: HostRuntime) -> Result<(), Memory> {
-    let alloc = rt.alloc();
+/// A struct of 8 bytes whose body has ended, and one without a body.
+fn with_and_without_a_body(alloc: Global) -> Result<Tags, Memory> {
     let mut tags = Tags {
         list: Items::new(alloc),
     };
@@ -108,6 +107,13 @@ fn knows_a_struct_from_the_end_of_its_body_on(rt: HostRuntime) -> Result<(), Mem
             known_from,
         })?;
     }
+    Ok(tags)
+}
+
+#[test]
+fn knows_a_struct_from_the_end_of_its_body_on(rt: HostRuntime) -> Result<(), Memory> {
+    let alloc = rt.alloc();
+    let tags = with_and_without_a_body(alloc)?;
     for (number, place, wanted) in [
         (0, 99, None),
         (0, 100, Some(8)),

@@ -1,4 +1,5 @@
-//! Layouts and sizes worked out by hand from the System V ABI for i386. `checks/c_types_abi.py` reads this file and asks gcc about the same declarations.
+//! Layouts and sizes worked out by hand from the System V ABI for i386. `checks/c_types_abi.py` reads this file and asks
+//! gcc about the same declarations.
 
 /// A type without its arrays.
 #[derive(Clone, Copy)]
