@@ -1,6 +1,6 @@
 // What each spelling is, and where tokens stand, is compared with tables in checks/words.py, which needs no proof.
-use super::*;
 use c_tokens::tokens;
+use c_words::{Basic, Source, Word};
 use std::test::Fail;
 
 #[test]

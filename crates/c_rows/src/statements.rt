@@ -1,7 +1,7 @@
 ghost use Rattle.std.specs.Prelude.{◌≡◌, ◌<◌, length, IfOk};
 
-use super::*;
 use asm_core::{Body, Part, Quoted};
+use asm_statement::statements;
 use c_tokens::tokens;
 use std::alloc::{AllocError, Global};
 use std::process::Abort;

@@ -1,4 +1,6 @@
-use super::*;
+use c_literals::{
+    IntegerConstant, character_constant, concatenated_length, integer_constant, string_length,
+};
 use c_tokens::{Tokens, tokens};
 use std::alloc::Global;
 use std::process::Abort;

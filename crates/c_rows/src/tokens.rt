@@ -1,7 +1,7 @@
 ghost use Rattle.std.specs.Prelude.{◌≡◌, IfOk};
 
-use super::*;
 use asm_core::{Edit, Items, Span};
+use c_tokens::{LineStarts, TokenKind, closers, line_col, splice, tokens};
 use std::alloc::Global;
 use std::process::Abort;
 use std::test::Fail;

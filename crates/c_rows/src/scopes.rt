@@ -1,7 +1,7 @@
 ghost use Rattle.std.specs.Prelude.{◌≡◌};
 
-use crate::{Declaration, Entity, NameKind, NameSpace, Scopes, name_kind, tagged, visible};
 use asm_core::{Items, Memory, Span};
+use c_scopes::{Declaration, Entity, NameKind, NameSpace, Scopes, name_kind, tagged, visible};
 use c_types::{CType, Layout, NO_BODY, Tag, extent_of};
 use std::alloc::Global;
 
