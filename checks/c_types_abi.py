@@ -1,7 +1,7 @@
 #!/usr/bin/env python3
-"""Asks gcc -m32 for the sizes, alignments and offsets that the tests of c_types in c_rows have.
+"""Asks gcc -m32 for the sizes, alignments and offsets that the table of layouts has.
 
-It reads the tables of crates/c_rows/src/layouts/rows.rt. A row with values has to hold by static assertions, and gcc
+It reads the tables of checks/tables/layouts/rows.rattle. A row with values has to hold by static assertions, and gcc
 has to refuse a row without. Both sizes are the same. Status 0 where all agree, 77 where there is no gcc for -m32,
 else 1.
 """
@@ -12,7 +12,7 @@ import sys
 from support.check import arguments
 from support.compiler import accepts, demand_gcc, gcc
 
-TABLES = pathlib.Path(__file__).resolve().parent.parent / "crates/c_rows/src/layouts/rows.rt"
+TABLES = pathlib.Path(__file__).resolve().parent.parent / "checks/tables/layouts/rows.rattle"
 ROW = re.compile(r'\n    (Row|Named)\(\s*"([^"]+)",(.*?)(?=\n    (?:Row|Named|//)|\n\];)', re.S)
 LAYOUT = re.compile(r"Some\(\(&\[([0-9, ]*)\],\s*(\d+),\s*(\d+)\)\)")
 EXTENT = re.compile(r"Some\(\((\d+),\s*(\d+)\)\)")

@@ -1,5 +1,5 @@
 #!/usr/bin/env python3
-"""Compares the table of expressions in crates/c_rows/src/expressions/rows.rt with gcc -m32.
+"""Compares the table of expressions in checks/tables/expressions/rows.rattle with gcc -m32.
 
 Each row's size and, where it is a constant, its number become static assertions that gcc has to accept. Expressions
 without a type in asmck's profile aren't asked: gcc knows more. Both sizes are the same. Status 0 where all agree, 77
@@ -13,7 +13,7 @@ import sys
 from support.check import arguments
 from support.compiler import accepts, demand_gcc
 
-ROWS = pathlib.Path(__file__).resolve().parent.parent / "crates/c_rows/src/expressions/rows.rt"
+ROWS = pathlib.Path(__file__).resolve().parent.parent / "checks/tables/expressions/rows.rattle"
 ROW = re.compile(
     r'\(\s*("(?:[^"\\]|\\.)*"),\s*(None|Some\(-?\d+\)),\s*(None|Some\(-?\d+\)),'
     r"\s*(true|false),\s*(None|Some\(-?\d+\)),?\s*\)"

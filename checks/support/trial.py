@@ -7,15 +7,20 @@ import subprocess
 ROOT = pathlib.Path(__file__).resolve().parent.parent.parent
 
 
-def program_in(folder, name, crates):
-    """The crate of checks/programs/NAME.rattle, in a repository of copies of this one's crates."""
+def crate_in(folder, name, crates, files):
+    """A crate over these crates, in a repository of copies of this one's. Its sources are copied from `files`, by their names."""
     copies = folder / "repository/crates"
     shutil.copytree(ROOT / "crates", copies, ignore=shutil.ignore_patterns("out"))
     (copies.parent / "crates.txt").write_text((ROOT / "crates.txt").read_text() + f"{name}: {crates}\n")
-    code = copies / name / "src"
-    code.mkdir(parents=True)
-    shutil.copy(ROOT / f"checks/programs/{name}.rattle", code / "main.rt")
-    return code.parent
+    for source, file in files.items():
+        (copies / name / "src" / source).parent.mkdir(parents=True, exist_ok=True)
+        shutil.copy(file, copies / name / "src" / source)
+    return copies / name
+
+
+def program_in(folder, name, crates):
+    """The crate of checks/programs/NAME.rattle."""
+    return crate_in(folder, name, crates, {"main.rt": ROOT / f"checks/programs/{name}.rattle"})
 
 
 def tried(crate, cases, *words):
