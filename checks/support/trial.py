@@ -8,7 +8,7 @@ ROOT = pathlib.Path(__file__).resolve().parent.parent.parent
 
 
 def crate_in(folder, name, crates, files):
-    """A crate over these crates, in a repository of copies of this one's. Its sources are copied from `files`, by their names."""
+    """A crate over these crates, in a repository of copies of this one's, with the sources `files` by their names."""
     copies = folder / "repository/crates"
     shutil.copytree(ROOT / "crates", copies, ignore=shutil.ignore_patterns("out"))
     (copies.parent / "crates.txt").write_text((ROOT / "crates.txt").read_text() + f"{name}: {crates}\n")
