@@ -1,28 +1,21 @@
 #!/usr/bin/env python3
-"""Asks gcc -m32 for the sizes, alignments and offsets that the tests of c_types have.
+"""Asks gcc -m32 for the sizes, alignments and offsets that the table of layouts has.
 
-It reads the tables of crates/c_types/src/tests/rows.rt. A row with values has to hold by static
-assertions, and gcc has to refuse a row without. Nothing is linked, so no 32-bit libc is needed.
-Status 0 where all agree or gcc has no -m32, else 1.
+It reads the tables of checks/tables/layouts/rows.rattle. A row with values has to hold by static assertions, and gcc
+has to refuse a row without. Both sizes are the same. Status 0 where all agree, 77 where there is no gcc for -m32,
+else 1.
 """
 import pathlib
 import re
-import subprocess
 import sys
 
-TABLES = pathlib.Path(__file__).resolve().parent.parent / "crates/c_types/src/tests/rows.rt"
+from support.check import arguments
+from support.compiler import accepts, demand_gcc, gcc
+
+TABLES = pathlib.Path(__file__).resolve().parent.parent / "checks/tables/layouts/rows.rattle"
 ROW = re.compile(r'\n    (Row|Named)\(\s*"([^"]+)",(.*?)(?=\n    (?:Row|Named|//)|\n\];)', re.S)
 LAYOUT = re.compile(r"Some\(\(&\[([0-9, ]*)\],\s*(\d+),\s*(\d+)\)\)")
 EXTENT = re.compile(r"Some\(\((\d+),\s*(\d+)\)\)")
-
-
-def gcc(source, *options):
-    command = ["gcc", "-m32", "-std=gnu11", "-x", "c", "-", *options]
-    return subprocess.run(command, input=source, text=True, capture_output=True)
-
-
-def accepts(source):
-    return gcc(source, "-fsyntax-only").returncode == 0
 
 
 def asserted(conditions):
@@ -44,13 +37,8 @@ def extent_conditions(text, values):
 
 
 def main():
-    try:
-        works = gcc("int x;\n", "-S", "-o", "/dev/null").returncode == 0
-    except FileNotFoundError:
-        works = False
-    if not works:
-        print("skipped: gcc -m32 does not work here")
-        return 0
+    arguments(__doc__)
+    demand_gcc()
     known = "enum E { E0 };\n"
     compared = refused = 0
     failures = []
@@ -68,7 +56,8 @@ def main():
             continue
         compared += 1
         conditions = layout_conditions if kind == "Row" else extent_conditions
-        answer = gcc(known + (declaration if kind == "Row" else "") + asserted(conditions(text, values)), "-fsyntax-only")
+        source = known + (declaration if kind == "Row" else "") + asserted(conditions(text, values))
+        answer = gcc(source, "-std=gnu11", "-fsyntax-only")
         if answer.returncode != 0:
             failures.append(f"{text}\n{answer.stderr}")
         if kind == "Row":

@@ -1,23 +1,29 @@
 #!/usr/bin/env python3
 """Compares the sizes that c_decls gives the names of preprocessed system headers with this machine's compiler's.
 
-Each header is preprocessed by gcc -m32, together with those that it includes. A small program over c_decls, built without a
-proof by `rt try`, prints the typedef names, variables, structs and unions that are seen at the end of the file with their
-sizes, and the members of structs and unions with their offsets. gcc -m32 compiles `sizeof` and offsets of the same names into
-assembly, which needs no 32-bit C library. Where gcc has a number and the program has none, the name isn't covered.
-Status 0 where no number is another than gcc's, or where there is no gcc with -m32, else 1.
+    checks/declarations.py [--size small|full]
+
+Each header is preprocessed by gcc -m32, together with those that it includes. A small program over c_decls, built
+without a proof by `rt try`, prints the typedef names, variables, structs and unions that are seen at the end of the
+file with their sizes, and the members of structs and unions with their offsets. gcc -m32 compiles `sizeof` and
+offsets of the same names into assembly, which needs no 32-bit C library. Where gcc has a number and the program has
+none, the name isn't covered. The small size takes the headers below, the full one each header of /usr/include that
+gcc takes by itself, of its folders linux and sys too. Status 0 where no number is another than gcc's, 77 where there
+is no gcc for -m32 or no headers, else 1.
 """
 import pathlib
 import re
 import sys
 import tempfile
 
-from support.compiler import gcc, preprocessed
+from support.check import arguments, skip
+from support.compiler import demand_gcc, gcc, preprocessed
 from support.trial import program_in, told
 
-HEADERS = """arpa/inet.h dirent.h elf.h fcntl.h linux/fs.h linux/if.h linux/input.h linux/kvm.h linux/perf_event.h math.h
-netinet/in.h poll.h pthread.h setjmp.h signal.h stdint.h stdio.h stdlib.h string.h sys/epoll.h sys/resource.h sys/socket.h
-sys/stat.h sys/time.h sys/wait.h termios.h time.h unistd.h wchar.h""".split()
+INCLUDED = pathlib.Path("/usr/include")
+HEADERS = """arpa/inet.h dirent.h elf.h fcntl.h linux/fs.h linux/if.h linux/input.h linux/kvm.h linux/perf_event.h
+math.h netinet/in.h poll.h pthread.h setjmp.h signal.h stdint.h stdio.h stdlib.h string.h sys/epoll.h sys/resource.h
+sys/socket.h sys/stat.h sys/time.h sys/wait.h termios.h time.h unistd.h wchar.h""".split()
 
 
 def expression(kind, words):
@@ -89,20 +95,29 @@ def compared(header, text, lines):
     return read, missing, wrong
 
 
+def headers_of(size):
+    if size == "small":
+        return HEADERS
+    folders = ("", "linux", "sys")
+    found = {str(file.relative_to(INCLUDED)) for folder in folders for file in (INCLUDED / folder).glob("*.h")}
+    return sorted(found.union(HEADERS))
+
+
 def main():
+    given = arguments(__doc__)
+    demand_gcc()
     with tempfile.TemporaryDirectory() as name:
         folder = pathlib.Path(name)
         cases = folder / "cases"
         cases.mkdir()
         texts = {}
-        for header in HEADERS:
+        for header in headers_of(given.size):
             text = preprocessed(f"#include <{header}>\n", folder)
             if text is not None:
                 texts[header.replace("/", "_")] = text
                 (cases / header.replace("/", "_")).write_text(text)
         if len(texts) < 12:
-            print("skipped: gcc preprocesses too few headers for -m32")
-            return 0
+            skip("gcc preprocesses too few headers for -m32")
         crates = "asm_core c_decls c_scopes c_tokens c_types ck_ports"
         found = told(program_in(folder, "declared_sizes", crates), cases)
         read = missing = 0
@@ -112,7 +127,8 @@ def main():
             read, missing, wrong = read + counts[0], missing + counts[1], wrong + counts[2]
         for line in wrong:
             print(line)
-        print(f"{len(texts)} headers: {read} sizes and offsets as gcc has them, {missing} not covered, {len(wrong)} wrong")
+        counts = f"{read} sizes and offsets as gcc has them, {missing} not covered, {len(wrong)} wrong"
+        print(f"{len(texts)} headers: {counts}")
         return 1 if wrong else 0
 
 

@@ -1,18 +1,22 @@
 #!/usr/bin/env python3
-"""Compares the table of expressions in crates/c_exprs/src/tests/rows.rt with gcc -m32.
+"""Compares the table of expressions in checks/tables/expressions/rows.rattle with gcc -m32.
 
-Each row's size and, where it is a constant, its number become static assertions that gcc has to accept. Expressions without
-a type in asmck's profile aren't asked: gcc knows more. Status 0 where all agree, or where there is no gcc for -m32, else 1.
+Each row's size and, where it is a constant, its number become static assertions that gcc has to accept. Expressions
+without a type in asmck's profile aren't asked: gcc knows more. Both sizes are the same. Status 0 where all agree, 77
+where there is no gcc for -m32, else 1.
 """
 import ast
 import pathlib
 import re
-import subprocess
 import sys
 
-ROWS = pathlib.Path(__file__).resolve().parent.parent / "crates/c_exprs/src/tests/rows.rt"
+from support.check import arguments
+from support.compiler import accepts, demand_gcc
+
+ROWS = pathlib.Path(__file__).resolve().parent.parent / "checks/tables/expressions/rows.rattle"
 ROW = re.compile(
-    r'\(\s*("(?:[^"\\]|\\.)*"),\s*(None|Some\(-?\d+\)),\s*(None|Some\(-?\d+\)),\s*(true|false),\s*(None|Some\(-?\d+\)),?\s*\)'
+    r'\(\s*("(?:[^"\\]|\\.)*"),\s*(None|Some\(-?\d+\)),\s*(None|Some\(-?\d+\)),'
+    r"\s*(true|false),\s*(None|Some\(-?\d+\)),?\s*\)"
 )
 SIGNED = {1: "signed char", 2: "short", 4: "int", 8: "long long"}
 
@@ -31,15 +35,9 @@ def assertions(row):
         yield f'_Static_assert(({SIGNED[value]})({expression}) == {known}ll, "number");'
 
 
-def accepts(text):
-    command = ["gcc", "-m32", "-std=gnu11", "-fsyntax-only", "-w", "-x", "c", "-"]
-    return subprocess.run(command, input=text, text=True, capture_output=True)
-
-
 def main():
-    if accepts("int x;").returncode != 0:
-        print("skipped: no gcc for -m32")
-        return 0
+    arguments(__doc__)
+    demand_gcc()
     table = ROWS.read_text()
     declarations = re.search(r'DECLARATIONS: &str = "\\\n(.*?)";', table, re.S).group(1)
     # This type isn't covered, and gcc has none of the name for -m32.
@@ -48,8 +46,7 @@ def main():
     wrong = 0
     for row in rows:
         lines = "\n".join(assertions(row))
-        done = accepts(f"{declarations}\nvoid z(void) {{\n{lines}\n}}\n")
-        if done.returncode != 0:
+        if not accepts(f"{declarations}\nvoid z(void) {{\n{lines}\n}}\n"):
             print(f"{row[0]}: gcc disagrees")
             wrong += 1
     print(f"{len(rows) - wrong} expressions agree with gcc -m32, {wrong} don't")

@@ -1,20 +1,23 @@
 #!/usr/bin/env python3
-"""Tells for how many operands of the asm statements in real files c_exprs knows the expression's type, and whether gcc agrees.
+"""Tells for how many operands of the asm statements in real files c_exprs knows the expression's type, and whether gcc
+agrees.
 
-    checks/operands.py [FILE.i ..]
+    checks/operands.py [--size small|full] [FILE.i ..]
 
-Without files it takes sources that use this machine's headers and has gcc -m32 preprocess them. A small program over c_exprs,
-built without a proof by `rt try`, prints for each operand the sizes of its expression and of its value, whether the value is a
-pointer, and its number. Then each statement is put into a statement expression with static assertions that say the same, and
-gcc -m32 reads the file. Each expression without a type is printed. Status 0 where gcc agrees with all that was printed, or
-where there is no gcc with -m32, else 1.
+Without files it takes sources that use this machine's headers and has gcc -m32 preprocess them; both sizes are the
+same. A small program over c_exprs, built without a proof by `rt try`, prints for each operand the sizes of its
+expression and of its value, whether the value is a pointer, and its number. Then each statement is put into a
+statement expression with static assertions that say the same, and gcc -m32 reads the file. Each expression without a
+type is printed. Status 0 where gcc agrees with all that was printed, 77 where there is no gcc for -m32 or no headers,
+else 1.
 """
 import pathlib
 import re
 import sys
 import tempfile
 
-from support.compiler import gcc, preprocessed
+from support.check import arguments, skip
+from support.compiler import demand_gcc, gcc, preprocessed
 from support.trial import program_in, told
 
 SOURCES = {
@@ -36,7 +39,8 @@ SOURCES = {
         """,
 }
 CRATES = "asm_core asm_statement c_decls c_exprs c_scopes c_tokens c_words ck_ports"
-INTEGERS = ("_Bool", "char", *(f"{sign} {size}" for sign in ("signed", "unsigned") for size in ("char", "short", "int", "long", "long long")))
+SIZED = ("char", "short", "int", "long", "long long")
+INTEGERS = ("_Bool", "char", *(f"{sign} {size}" for sign in ("signed", "unsigned") for size in SIZED))
 NO_POINTER = "".join(f"{integer}: 0, " for integer in INTEGERS)
 
 
@@ -100,12 +104,13 @@ def texts_of(names, folder):
 
 
 def main():
+    given = arguments(__doc__, files="a preprocessed C file")
+    demand_gcc()
     with tempfile.TemporaryDirectory() as name:
         folder = pathlib.Path(name)
-        texts = texts_of(sys.argv[1:], folder)
-        if len(texts) < 3 and not sys.argv[1:]:
-            print("skipped: gcc preprocesses too few headers for -m32")
-            return 0
+        texts = texts_of(given.files, folder)
+        if len(texts) < 3 and not given.files:
+            skip("gcc preprocesses too few headers for -m32")
         cases = folder / "cases"
         cases.mkdir()
         for file, text in texts.items():

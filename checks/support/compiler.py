@@ -1,10 +1,28 @@
 """This machine's gcc for -m32."""
+import os
 import subprocess
+
+from support.check import skip
 
 
 def gcc(source, *options):
     command = ["gcc", "-m32", "-w", "-fmax-errors=0", "-x", "c", "-", *options]
     return subprocess.run(command, input=source, text=True, capture_output=True)
+
+
+def demand_gcc():
+    """Ends the check as skipped where there is no gcc that compiles for -m32. No 32-bit C library is needed."""
+    try:
+        works = gcc("int x;\n", "-S", "-o", os.devnull).returncode == 0
+    except FileNotFoundError:
+        works = False
+    if not works:
+        skip("no gcc that compiles for -m32")
+
+
+def accepts(source):
+    """Whether gcc finds no error in C11 source with GNU's extensions."""
+    return gcc(source, "-std=gnu11", "-fsyntax-only").returncode == 0
 
 
 def preprocessed(source, folder):

@@ -1,31 +1,46 @@
 """Programs over this repository's crates, built without a proof by `rt try`."""
 import pathlib
+import re
 import shutil
 import subprocess
 
 ROOT = pathlib.Path(__file__).resolve().parent.parent.parent
 
 
-def program_in(folder, name, crates):
-    """The crate of checks/programs/NAME.rattle, in a repository of copies of this one's crates."""
+def crate_in(folder, name, crates, files):
+    """A crate over these crates, in a repository of copies of this one's, with the sources `files` by their names."""
     copies = folder / "repository/crates"
     shutil.copytree(ROOT / "crates", copies, ignore=shutil.ignore_patterns("out"))
     (copies.parent / "crates.txt").write_text((ROOT / "crates.txt").read_text() + f"{name}: {crates}\n")
-    code = copies / name / "src"
-    code.mkdir(parents=True)
-    shutil.copy(ROOT / f"checks/programs/{name}.rattle", code / "main.rt")
-    return code.parent
+    for source, file in files.items():
+        (copies / name / "src" / source).parent.mkdir(parents=True, exist_ok=True)
+        shutil.copy(file, copies / name / "src" / source)
+    return copies / name
+
+
+def program_in(folder, name, crates):
+    """The crate of checks/programs/NAME.rattle."""
+    return crate_in(folder, name, crates, {"main.rt": ROOT / f"checks/programs/{name}.rattle"})
+
+
+def tried(crate, cases, *words):
+    """What the crate's program prints of each file in the folder `cases`, and its status, by the file's name.
+
+    A word `{}` stands for the file, which the program knows by the name `case`.
+    """
+    done = subprocess.run(["rt", "try", "--cases", str(cases), "--", *words], cwd=crate, text=True, capture_output=True)
+    found, lines = {}, None
+    for line in done.stdout.splitlines():
+        if line.startswith("== "):
+            lines = found.setdefault(line.removeprefix("== "), [])
+        elif lines is not None and line:
+            lines.append(line)
+    statuses = dict(re.findall(r"^case=(.+) run=ended status=(\d+)", done.stderr, re.M))
+    if not statuses:
+        print(done.stdout[-2000:], done.stderr[-2000:])
+    return {name: (found.get(name, []), int(status)) for name, status in statuses.items()}
 
 
 def told(crate, cases):
     """What the program prints of each file in the folder, by its name."""
-    done = subprocess.run(["rt", "try", "--cases", str(cases), "--", "{}"], cwd=crate, text=True, capture_output=True)
-    found, lines = {}, None
-    for line in done.stdout.splitlines():
-        if line.startswith("== "):
-            lines = found.setdefault(line.split()[1], [])
-        elif lines is not None and line:
-            lines.append(line)
-    if not found:
-        print(done.stdout[-2000:], done.stderr[-2000:])
-    return found
+    return {name: lines for name, (lines, _) in tried(crate, cases, "{}").items()}

@@ -13,6 +13,3 @@ mod statement;
 mod template;
 
 pub use statement::statements;
-
-#[cfg(test)]
-mod tests;

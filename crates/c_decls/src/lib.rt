@@ -27,6 +27,3 @@ mod walk;
 
 pub use c_scopes::{Declaration, Entity, NameKind, NameSpace, Scopes, name_kind, tagged, visible};
 pub use walk::{scopes, tags};
-
-#[cfg(test)]
-mod tests;

@@ -5,6 +5,3 @@ mod reading;
 
 pub use asm_core::Operand;
 pub use reading::{operand, operand_in, token_from};
-
-#[cfg(test)]
-mod tests;

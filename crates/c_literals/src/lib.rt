@@ -21,6 +21,3 @@ pub use literal_end::LiteralEnd;
 pub use plain::Plain;
 pub use raw::{Raw, raws_between, raws_in};
 pub use string::{concatenated_length, string_length};
-
-#[cfg(test)]
-mod tests;

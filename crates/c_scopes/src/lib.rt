@@ -13,6 +13,3 @@ mod scopes;
 pub use declaration::{Declaration, Entity, NameKind, NameSpace};
 pub use lookup::{name_kind, tagged, visible};
 pub use scopes::Scopes;
-
-#[cfg(test)]
-mod tests;

@@ -22,6 +22,3 @@ pub use line_starts::LineStarts;
 pub use lines::line_col;
 pub use token::{Token, TokenKind, Tokens};
 pub use token_end::TokenEnd;
-
-#[cfg(test)]
-mod tests;

@@ -12,6 +12,3 @@ pub use ctype::{CType, MOST_LAYERS};
 pub use extent::{Extent, LARGEST_SIZE, align_of, extent_of, size_of};
 pub use members::{last_extent_of, layout};
 pub use tag::{Layout, NO_BODY, Tag, Tags};
-
-#[cfg(test)]
-mod tests;

@@ -32,6 +32,3 @@ pub use scalar::varying;
 pub use type_end::TypeEnd;
 pub use unary::unary_of;
 pub use value::{Constant, Value};
-
-#[cfg(test)]
-mod tests;

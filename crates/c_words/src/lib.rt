@@ -10,6 +10,3 @@ mod word;
 pub use punct::Punct;
 pub use source::Source;
 pub use word::{Basic, TagWord, Word};
-
-#[cfg(test)]
-mod tests;

@@ -1,5 +1,0 @@
-use Rattle.c_types.specs.Extents.{AllAligned}
-use Rattle.c_types.proofs.tests.declared.Given as goal
-
-abbrev pub invariant-loop-row : goal.invariant-loop-row
-invariant-loop-row l = AllAligned l.tags
