@@ -1,0 +1,322 @@
+// Expected lines are those of the rules, worked out by hand.
+
+/// What a file with this statement leads to.
+pub struct Row {
+    pub statement: &'static str,
+    pub printed: &'static str,
+    pub code: u8,
+}
+
+pub static JUDGED: [Row; 17] = [
+    Row {
+        statement: "__asm__(\"movl %1,%0\":\"=r\"(y):\"r\"(x))",
+        printed: "a.c:1:20: ok\n",
+        code: 0,
+    },
+    Row {
+        statement: "__asm__(\"addl %1,%0\":\"+r\"(y):\"r\"(x))",
+        printed: "a.c:1:20: broken W3 at end: cc -: the flags are not as at entry\n",
+        code: 1,
+    },
+    Row {
+        statement: "__asm__(\"addl %1,%0\":\"+r\"(y):\"r\"(x):\"cc\")",
+        printed: "a.c:1:20: ok\n",
+        code: 0,
+    },
+    Row {
+        statement: "__asm__(\"movl %1,%0; addl $3,%0\":\"=r\"(y):\"r\"(x):\"cc\")",
+        printed: "a.c:1:20: ok\n",
+        code: 0,
+    },
+    Row {
+        statement: "__asm__(\"addl $1,%0\"::\"r\"(x))",
+        printed: "a.c:1:20: broken W2 at end: %0 -: an input is changed\na.c:1:20: broken W3 at end: cc -: the flags are not as at entry\n",
+        code: 1,
+    },
+    Row {
+        statement: "__asm__(\"addl $1,%0\"::\"r\"(x):\"cc\")",
+        printed: "a.c:1:20: broken W2 at end: %0 -: an input is changed\n",
+        code: 1,
+    },
+    Row {
+        statement: "__asm__(\"movl $1,%0\"::\"r\"(x))",
+        printed: "a.c:1:20: broken W2 at end: %0 -: an input is changed\n",
+        code: 1,
+    },
+    Row {
+        statement: "__asm__(\"movl %0,%0\"::\"r\"(x))",
+        printed: "a.c:1:20: ok\n",
+        code: 0,
+    },
+    Row {
+        statement: "__asm__(\"movl %0,%0; movl $0,%0; movl %0,%0\"::\"r\"(x))",
+        printed: "a.c:1:20: broken W2 at end: %0 -: an input is changed\n",
+        code: 1,
+    },
+    Row {
+        statement: "__asm__(\"movl $2147483647,%0\":\"=r\"(y):\"r\"(x))",
+        printed: "a.c:1:20: ok\n",
+        code: 0,
+    },
+    Row {
+        statement: "__asm__(\"movl %1,%0; movl %0,%0; addl %0,%0\":\"=r\"(y):\"r\"(x):\"cc\")",
+        printed: "a.c:1:20: ok\n",
+        code: 0,
+    },
+    Row {
+        statement: "__asm__ ( \"movl %1,%0\" : \"=r\" (y) : \"r\" (x) )",
+        printed: "a.c:1:20: ok\n",
+        code: 0,
+    },
+    Row {
+        statement: "__asm__(\"movl %1,%0\":[to]\"=r\"(y):[from]\"r\"(x))",
+        printed: "a.c:1:20: ok\n",
+        code: 0,
+    },
+    Row {
+        statement: "__asm__(\"movl %1,%0\":[to]\"=r\"(y):\"r\"(x+1))",
+        printed: "a.c:1:20: ok\n",
+        code: 0,
+    },
+    Row {
+        statement: "__asm__(\"movl %1,%0\":\"=r\"(y):\"r\"(&x))",
+        printed: "a.c:1:20: ok\n",
+        code: 0,
+    },
+    Row {
+        statement: "__asm__(\"movl %1\" \",%0\":\"=r\"(y):\"r\"(x))",
+        printed: "a.c:1:20: ok\n",
+        code: 0,
+    },
+    Row {
+        statement: "__asm__(\"movl %1,%0\":\"=\" \"r\"(y):\"r\"(x))",
+        printed: "a.c:1:20: ok\n",
+        code: 0,
+    },
+];
+
+// Statements of other forms.
+pub static NOT_YET: [&str; 12] = [
+    "__asm__(\"xorl %%eax,%%eax; movl %%eax,%0\":\"=r\"(y))",
+    "__asm__(\"movl $2147483648,%0\":\"=r\"(y):\"r\"(x))",
+    "__asm__(\"movl $01,%0\":\"=r\"(y):\"r\"(x))",
+    "__asm__(\"movl $,%0\":\"=r\"(y):\"r\"(x))",
+    "__asm__(\"movl %0,%0\":\"=r\"(y):\"r\"(x))",
+    "__asm__(\"addl %1,%0\":\"=r\"(y):\"r\"(x))",
+    "__asm__(\"movl $1,%0; movl %1,%0\":\"=r\"(y):\"r\"(x))",
+    "__asm__(\"movl %1,%0;\":\"=r\"(y):\"r\"(x))",
+    "__asm__(\"movl %1,%0;movl %0,%0\":\"=r\"(y):\"r\"(x))",
+    "__asm__(\"movl %1, %0\":\"=r\"(y):\"r\"(x))",
+    "__asm__(\"\":\"=r\"(y):\"r\"(x))",
+    "__asm__(\"movl %1,%0\":\"=r\"(y):\"r\"(x):\"memory\")",
+];
+
+// What a statement tells the compiler: malformed, without room, or outside the tables.
+pub static INTERFACES: [Row; 15] = [
+    Row {
+        statement: "__asm__(\"\":\"r\"(y))",
+        printed: "a.c:1:20: broken K2 at -: %0 -: the interface is malformed\n",
+        code: 1,
+    },
+    Row {
+        statement: "__asm__(\"\":\"=a\"(y):\"m\"(x):\"eax\")",
+        printed: "a.c:1:20: broken K2 at -: %0 -: the interface is malformed\n",
+        code: 1,
+    },
+    Row {
+        statement: "__asm__(\"movl %1,%0\"::\"r\"(x))",
+        printed: "a.c:1:20: broken K2 at -: - -: the interface is malformed\n",
+        code: 1,
+    },
+    Row {
+        statement: "__asm__(\"movl %1,%0\":[x]\"=r\"(y):[x]\"r\"(x))",
+        printed: "a.c:1:20: broken K2 at -: %1 -: the interface is malformed\n",
+        code: 1,
+    },
+    Row {
+        statement: "__asm__(\"# %3\":\"r\"(y):\"=r\"(x))",
+        printed: "a.c:1:20: broken K2 at -: %0 -: the interface is malformed\na.c:1:20: broken K2 at -: %1 -: the interface is malformed\na.c:1:20: broken K2 at -: - -: the interface is malformed\n",
+        code: 1,
+    },
+    Row {
+        statement: "__asm__(\"sete %0\":\"=@cce\"(y):\"r\"(x))",
+        printed: "a.c:1:20: broken K2 at -: %0 -: the interface is malformed\n",
+        code: 1,
+    },
+    Row {
+        statement: "__asm__(\"\":\"=a\"(y):\"b\"(x),\"b\"(x))",
+        printed: "a.c:1:20: broken K1 at -: - -: no placement has room\n",
+        code: 1,
+    },
+    Row {
+        statement: "__asm__(\"\":\"=a\"(y):\"a\"(x):\"edx\")",
+        printed: "a.c: not yet\n",
+        code: 10,
+    },
+    Row {
+        statement: "__asm__(\"\":\"=&a\"(y):\"a\"(x))",
+        printed: "a.c:1:20: broken K1 at -: - -: no placement has room\n",
+        code: 1,
+    },
+    Row {
+        statement: "__asm__(\"nop\"::\"r\"(x):\"st\")",
+        printed: "a.c:1:20: undecided clobber name at 1:42\n",
+        code: 3,
+    },
+    Row {
+        statement: "__asm__(\"nop\"::\"A\"(x))",
+        printed: "a.c:1:20: undecided operand type at 1:39\n",
+        code: 3,
+    },
+    Row {
+        statement: "__asm__(\"nop\":\"=x\"(y))",
+        printed: "a.c:1:20: undecided constraint at 1:34\n",
+        code: 3,
+    },
+    Row {
+        statement: "__asm__(\"nop\":\"=@ccpe\"(y))",
+        printed: "a.c:1:20: undecided constraint at 1:34\n",
+        code: 3,
+    },
+    Row {
+        statement: "__asm__(\"a %q0\"::\"r\"(x))",
+        printed: "a.c:1:20: undecided template form at 1:31\n",
+        code: 3,
+    },
+    Row {
+        statement: "__asm__(\"a %q0\":\"=x\"(y):\"A\"(x))",
+        printed: "a.c:1:20: undecided operand type at 1:48\n",
+        code: 3,
+    },
+];
+
+// Whole files: no text of C tokens, without a statement, with statements outside the tables.
+pub static FILES: [Row; 13] = [
+    Row {
+        statement: "char*s=\"ab",
+        printed: "a.c:1:8: bad text: open string at 7\n",
+        code: 6,
+    },
+    Row {
+        statement: "\n\n /* no end",
+        printed: "a.c:3:2: bad text: open comment at 3\n",
+        code: 6,
+    },
+    Row {
+        statement: "int a;\n  @",
+        printed: "a.c:2:3: bad text: bad byte at 9\n",
+        code: 6,
+    },
+    Row {
+        statement: ")\n",
+        printed: "a.c:1:1: bad text: unbalanced bracket at 0\n",
+        code: 6,
+    },
+    Row {
+        statement: "",
+        printed: "",
+        code: 0,
+    },
+    Row {
+        statement: "char*s=\"ab\";",
+        printed: "",
+        code: 0,
+    },
+    Row {
+        statement: "extern int g(void) __asm__(\"h\");\n",
+        printed: "",
+        code: 0,
+    },
+    Row {
+        statement: "void f(void){__asm__(\"nop\");}\n",
+        printed: "a.c:1:14: undecided statement form at 1:14\n",
+        code: 3,
+    },
+    Row {
+        statement: "__asm__(\"nop\"::);\n",
+        printed: "a.c:1:1: undecided statement form at 1:1\n",
+        code: 3,
+    },
+    Row {
+        statement: "int f(void){\n  asm goto(\"jmp %l0\"::::out);\nout:return 0;}\n",
+        printed: "a.c:2:3: undecided statement form at 2:3\n",
+        code: 3,
+    },
+    Row {
+        statement: "void f(void){asm(\"a\");asm(\"b\");}\n",
+        printed: "a.c:1:14: undecided statement form at 1:14\na.c:1:23: undecided statement form at 1:23\n",
+        code: 3,
+    },
+    Row {
+        statement: "void f(int x){asm(\"a\");asm(\"b\"::\"r\"(x));}\n",
+        printed: "a.c: not yet\n",
+        code: 10,
+    },
+    Row {
+        statement: "int f(int x,int y){__asm__(\"movl %1,%0\":\"=r\"(y):\"r\"(x));return y;}\n\n",
+        printed: "a.c:1:20: ok\n",
+        code: 0,
+    },
+];
+
+// Whole files whose statements are judged by what their operands are.
+pub static OPERANDS: [Row; 9] = [
+    Row {
+        statement: "typedef struct{int a;unsigned b;}t;void h(t*p){__asm__(\"movl %1,%0\":\"=r\"(p->b):\"r\"(p->a));}",
+        printed: "a.c:1:48: ok\n",
+        code: 0,
+    },
+    Row {
+        statement: "typedef struct{short a;unsigned b;}t;void h(t*p){__asm__(\"movl %1,%0\":\"=r\"(p->b):\"r\"(p->a));}",
+        printed: "a.c: not yet\n",
+        code: 10,
+    },
+    Row {
+        statement: "void f(int x){\n__asm__(\"movl %0,%0\"::\"r\"(x));\n}\nvoid g(int x){\n__asm__(\"movl $1,%0\"::\"r\"(x));\n}\n",
+        printed: "a.c:2:1: ok\na.c:5:1: broken W2 at end: %0 -: an input is changed\n",
+        code: 1,
+    },
+    Row {
+        statement: "void f(int x){\n__asm__(\"movl %0,%0\"::\"r\"(x));\n}\nvoid g(void){\n__asm__(\"nop\");\n}\n",
+        printed: "a.c:2:1: ok\na.c:5:1: undecided statement form at 5:1\n",
+        code: 3,
+    },
+    Row {
+        statement: "void f(int x){\n__asm__(\"movl $1,%0\"::\"r\"(x));\n__asm__(\"nop\");\n}\n",
+        printed: "a.c:2:1: broken W2 at end: %0 -: an input is changed\na.c:3:1: undecided statement form at 3:1\n",
+        code: 1,
+    },
+    Row {
+        statement: "void f(int x,short s){\n__asm__(\"movl $1,%0\"::\"r\"(x));\n__asm__(\"movl %0,%0\"::\"r\"(s));\n}\n",
+        printed: "a.c: not yet\n",
+        code: 10,
+    },
+    Row {
+        statement: "short v;\nvoid f(void){int v;__asm__(\"movl %0,%0\"::\"r\"(v));}\n",
+        printed: "a.c:2:20: ok\n",
+        code: 0,
+    },
+    Row {
+        statement: "int v;\nvoid f(void){short v;__asm__(\"movl %0,%0\"::\"r\"(v));}\n",
+        printed: "a.c: not yet\n",
+        code: 10,
+    },
+    Row {
+        statement: "void f(void){__asm__(\"movl %0,%0\"::\"r\"(unknown));}\n",
+        printed: "a.c:1:14: undecided operand type at 1:40\n",
+        code: 3,
+    },
+];
+
+// Words that are of no known form.
+pub static USAGES: [&[&str]; 6] = [
+    &[],
+    &["check"],
+    &["check", "-x"],
+    &["patch", "a.c"],
+    &["gen", "1", "10001"],
+    &["check", "a.c", "b.c"],
+];
+
+pub const USAGE: &str =
+    "usage: asmck check FILE.. | patch IN OUT | lift IN OUT | try FILE K SEED STEPS | gen SEED COUNT\n";
