@@ -10,3 +10,4 @@ pub mod Settled
 pub mod SoundShapes
 pub mod LeastRoom
 pub mod Meeting
+pub mod ListLaws

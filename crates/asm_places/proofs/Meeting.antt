@@ -1,14 +1,13 @@
 -- Placements in which two places use a register, and the operands that have to use it.
-use Rattle.std.proofs.Common.{◌≡◌, ◌≢◌, ◌⊎◌, inl, inr, ℕ, ◌+◌, ◌<◌, ◌≤◌, IfSome, IfNone, slice_index_or, ◌==◌, ◌||◌, not, List, [], ◌∷◌, ◌++◌, Bool, true, false, Option, None, Some, slice_get, refl, sym, ap, subst, ◌∙◌, arith, if◌then◌else◌}
+use Rattle.std.proofs.Common.{◌≡◌, inl, inr, ℕ, ◌+◌, ◌<◌, ◌≤◌, IfSome, IfNone, slice_index_or, ◌==◌, ◌||◌, not, [], ◌∷◌, ◌++◌, Bool, true, false, Option, None, Some, refl, sym, ap, subst, ◌∙◌, arith, if◌then◌else◌}
 use Rattle.std.proofs.lemmas.Bool.{or_cases, or_left, or_right, eqb-true, eq-eqb, both_ways, cases_eq}
 use Rattle.asm_core.specs.Reg.{reg_number}
 use Rattle.asm_core.specs.Lists.{IsMember}
-use Rattle.asm_core.specs.Placement.{spot_of, value_registers, address_registers, HasOperand, IsAllowed, tie_root}
+use Rattle.asm_core.specs.Placement.{spot_of, value_registers, address_registers, IsAllowed, tie_root}
 use Rattle.asm_core.specs.Roomy.{place_registers, IsPlaceOf, ShareRegister}
 use Rattle.asm_core.specs.declared.reg.Reg.{Reg}
 use Rattle.asm_core.specs.declared.sym.Place.{Place}
 use Rattle.asm_core.specs.declared.shape.Shape.{Shape}
-use Rattle.asm_core.specs.declared.interface.OperandIface.{OperandIface}
 use Rattle.asm_core.specs.declared.interface.Interface.{Interface}
 use Rattle.asm_core.specs.declared.placement.Placement.{Placement}
 use Rattle.asm_core.proofs.RegisterLaws.{same_reg}
@@ -20,9 +19,9 @@ use Rattle.asm_places.specs.declared.goal.Asked.{Asked}
 use Rattle.asm_places.specs.declared.goal.Goal.TheVariants.{Use}
 use Rattle.asm_places.specs.declared.operand.ShapedOperand.{ShapedOperand}
 use Rattle.asm_places.proofs.Shaped.{in_shape, operand_is}
-use Rattle.asm_places.proofs.FromPlacement.{IsUsed, AreUsed, choices_from, allowed_assigns}
+use Rattle.asm_places.proofs.FromPlacement.{AreUsed, choices_from, allowed_assigns}
 use Rattle.asm_places.proofs.ToPlacement.{use_allowed, use_used}
-use Rattle.asm_places.proofs.Sound.{IsSound, IsRoot, root_of}
+use Rattle.asm_places.proofs.Sound.{IsSound, root_of}
 
 -- what is asked of the operands for two places and a register
 abbrev pub asked_for : Interface → Shape → Place → Place → Reg → Asked

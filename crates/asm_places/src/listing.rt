@@ -1,11 +1,11 @@
-ghost use Rattle.std.specs.Prelude.{◌≡◌, ◌↔◌, ℕ, ◌<◌, ◌≤◌, min, length, map, [], ◌∷◌, ◌++◌, IfOk, OnOk, option_to_list, if◌then◌else◌};
+ghost use Rattle.std.specs.Prelude.{◌≡◌, ◌↔◌, ℕ, ◌<◌, ◌≤◌, min, length, slice_get, map, [], ◌∷◌, ◌++◌, IfOk, OnOk, option_to_list, if◌then◌else◌};
 ghost use Rattle.std.specs.List.{flat_map};
 ghost use Rattle.asm_core.specs.Shape.{letter_kinds, kind_lists, alternative_of, alternatives_of, shapes_of};
 ghost use Rattle.asm_core.specs.WellFormed.{IsInterface};
-ghost use Rattle.asm_places.specs.Counts.{kind_count, list_count, allows, one_longer, all_longer};
+ghost use Rattle.asm_places.specs.Counts.{kind_count, list_count, allows, one_longer, all_longer, count_with, lists_with, of_alternative};
 ghost use Rattle.asm_places.specs.declared.listing.ShapesEnd.{ShapesEnd};
 
-use asm_core::{AltIface, Duplicate, Interface, Items, Kind, Kinds, Memory, Shape};
+use asm_core::{AltIface, Duplicate, Interface, Items, Kind, Kinds, Memory, OperandIface, Shape};
 use bitflags::Flags;
 use std::alloc::Global;
 use thiserror::Error;
@@ -74,11 +74,26 @@ fn list_count(i: &Interface, a: usize) -> usize
 {
     let mut count = 1;
     for operand in i.operands.as_slice() {
-        if let Some(allowed) = operand.alts.get(a) {
-            count = (count * kind_count(allowed)).min(MAX_SHAPES + 1);
-        }
+        count = count_with(count, allowed_in(operand, a));
     }
     count
+}
+
+fn allowed_in(operand: &OperandIface, a: usize) -> Option<AltIface>
+    ensures { result ≡ slice_get operand.now.alts a }
+{
+    operand.alts.get(a).copied()
+}
+
+/// The count with one more operand, 65 where it is more than 64.
+fn count_with(count: usize, allowed: Option<AltIface>) -> usize
+    requires { count ≤ 65 }
+    ensures { result ≡ count_with allowed count }
+{
+    match allowed {
+        Some(allowed) => (count * kind_count(&allowed)).min(MAX_SHAPES + 1),
+        None => count,
+    }
 }
 
 /// How many kinds an operand may have; a tied one has its output's alone.
@@ -117,12 +132,27 @@ fn listed(alloc: Global, i: &Interface) -> Result<Items<Shape>, Memory>
 {
     let mut list = Items::new(alloc);
     for a in 0..alternative_count(i) {
-        if list_count(i, a) > 0 {
-            let lists = kind_lists(alloc, i, a)?;
-            push_shapes(alloc, &mut list, a as u32, lists.as_slice())?;
-        }
+        push_alternative(alloc, &mut list, i, a)?;
     }
     Ok(list)
+}
+
+/// Adds the shapes of one alternative. Where it has none, no list is begun.
+fn push_alternative(
+    alloc: Global,
+    list: &mut Items<Shape>,
+    i: &Interface,
+    a: usize,
+) -> Result<(), Memory>
+    requires interface { IsInterface i.now }
+    requires there { a < length (alternatives_of i.now) }
+    ensures { OnOk result (list.new ≡ list.old ++ of_alternative i.now a) }
+{
+    if list_count(i, a) == 0 {
+        return Ok(());
+    }
+    let lists = kind_lists(alloc, i, a)?;
+    push_shapes(alloc, list, a as u32, lists.as_slice())
 }
 
 fn push_shapes(
@@ -149,11 +179,23 @@ fn kind_lists(alloc: Global, i: &Interface, a: usize) -> Result<Items<Kinds>, Me
     let mut lists = Items::new(alloc);
     lists.push(Kinds::new(alloc))?;
     for operand in i.operands.as_slice() {
-        if let Some(allowed) = operand.alts.get(a) {
-            lists = all_longer(alloc, allowed, lists.as_slice())?;
-        }
+        lists = lists_with(alloc, lists, allowed_in(operand, a))?;
     }
     Ok(lists)
+}
+
+/// The lists with one more operand.
+fn lists_with(
+    alloc: Global,
+    lists: Items<Kinds>,
+    allowed: Option<AltIface>,
+) -> Result<Items<Kinds>, Memory>
+    ensures { IfOk result (λ longer. longer ≡ lists_with allowed lists) }
+{
+    match allowed {
+        Some(allowed) => all_longer(alloc, &allowed, lists.as_slice()),
+        None => Ok(lists),
+    }
 }
 
 fn all_longer(alloc: Global, allowed: &AltIface, lists: &[Kinds]) -> Result<Items<Kinds>, Memory>

@@ -4,7 +4,7 @@ use Rattle.asm_places.specs.Placing.{IsLeastPlaced, HasNoAssignment}
 use Rattle.asm_places.specs.Sharing.{operand_of, IsSharedIn}
 use Rattle.asm_places.specs.declared.goal.Asked.{Asked}
 use Rattle.asm_places.specs.declared.goal.Goal.TheVariants.{Use}
-use Rattle.asm_places.proofs.Meeting.{asked_for, placed_shares, none_shares, other_apart, if_some, if_none}
+use Rattle.asm_places.proofs.Meeting.{asked_for, placed_shares, none_shares, if_some, if_none}
 use Rattle.asm_places.proofs.SoundShapes.{sound}
 use Rattle.asm_places.proofs.sharing.sharing_in.Goals as goal
 
