@@ -1,16 +1,13 @@
 -- What choices, registers and masks of registers say of one another.
-use Rattle.std.proofs.Common.{◌≡◌, ◌≢◌, ◌⊎◌, inl, inr, ℕ, zero, suc, ◌+◌, ◌<◌, ◌==◌, ◌&&◌, ◌||◌, not, List, [], ◌∷◌, ◌++◌, Bool, true, false, slice_index_or, bit_and, refl, sym, ap, subst, ◌∙◌, arith}
-use Rattle.std.specs.List.{list_any}
-use Rattle.std.proofs.lemmas.Bool.{or_parts, or_from, or_left, or_right, and_parts, and_from, eqb-true, eq-eqb, both_ways, cases_Bool}
+use Rattle.std.proofs.Common.{◌≡◌, inl, inr, ℕ, ◌<◌, ◌==◌, ◌&&◌, ◌||◌, not, Bool, true, false, bit_and, refl, sym, ap, ◌∙◌}
+use Rattle.std.proofs.lemmas.Bool.{or_parts, or_from, and_parts, and_from, eqb-true, eq-eqb, both_ways}
 use Rattle.register_search.specs.Assignment.{registers_of}
 use Rattle.register_search.proofs.Sets.{each_choice}
-use Rattle.asm_core.specs.Reg.{reg_number}
-use Rattle.asm_core.specs.Lists.{IsMember, AreApart}
+use Rattle.asm_core.specs.Lists.{IsMember}
 use Rattle.asm_core.specs.Placement.{value_registers}
 use Rattle.asm_core.specs.Roomy.{order_of}
 use Rattle.asm_core.specs.declared.reg.Reg.{Reg}
 use Rattle.asm_core.specs.declared.reg.Reg.TheVariants.{Eax, Ebx, Ecx, Edx, Esi, Edi, Ebp}
-use Rattle.asm_core.specs.declared.placement.Spot.{Spot}
 use Rattle.asm_places.specs.Operand.{takes}
 use Rattle.asm_places.specs.Placing.{choice_spot}
 

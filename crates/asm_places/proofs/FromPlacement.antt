@@ -1,14 +1,14 @@
 -- A placement gives an assignment of the classes.
-use Rattle.std.proofs.Common.{◌≡◌, ◌≢◌, ◌⊎◌, inl, inr, ℕ, ◌+◌, ◌/◌, ◌%◌, ◌^◌, ◌<◌, ◌==◌, ◌&&◌, ◌||◌, not, List, [], ◌∷◌, ◌++◌, length, Bool, true, false, IsTrue, Option, None, Some, slice_get, slice_index_or, bit_and, refl, sym, ap, subst, ◌∙◌, arith, if◌then◌else◌}
+use Rattle.std.proofs.Common.{◌≡◌, ◌≢◌, ◌⊎◌, inl, inr, ℕ, ◌<◌, ◌==◌, ◌&&◌, ◌||◌, not, List, [], ◌∷◌, ◌++◌, true, false, Option, None, Some, slice_get, refl, sym, ap, subst, ◌∙◌, arith, if◌then◌else◌}
 use Rattle.std.specs.Int.{bit_at}
-use Rattle.std.proofs.lemmas.Bool.{and_from, and_parts, or_left, or_right, or_cases, eqb-true, eq-eqb, false_from_ne_true, not_from_false}
-use Rattle.register_search.specs.Assignment.{takes_registers, may_take, are_rivals, registers_of, IsAssignment}
+use Rattle.std.proofs.lemmas.Bool.{and_from, and_parts, or_left, or_cases, eqb-true, eq-eqb, false_from_ne_true, not_from_false}
+use Rattle.register_search.specs.Assignment.{takes_registers, may_take, are_rivals, IsAssignment}
 use Rattle.register_search.specs.declared.class.Class.{Class}
 use Rattle.register_search.specs.declared.class.Group.{Group}
 use Rattle.register_search.specs.declared.class.Group.TheVariants.{Absent, Exclusive, Numbered}
 use Rattle.asm_core.specs.Reg.{reg_number, IsIn}
-use Rattle.asm_core.specs.Lists.{IsMember, AreApart}
-use Rattle.asm_core.specs.Placement.{spot_of, value_registers, address_registers, form_registers, input_registers, Fits, NoneIn, HasOperand, IsAllowed, IsRoomy, tie_root, is_output, is_input}
+use Rattle.asm_core.specs.Lists.{IsMember}
+use Rattle.asm_core.specs.Placement.{spot_of, value_registers, address_registers, input_registers, Fits, IsAllowed, IsRoomy, tie_root, is_output, is_input}
 use Rattle.asm_core.specs.declared.reg.Reg.{Reg}
 use Rattle.asm_core.specs.declared.reg.Reg.TheVariants.{Eax, Ebx, Ecx, Edx, Esi, Edi, Ebp}
 use Rattle.asm_core.specs.declared.reg.RegSet.{RegSet}
@@ -28,7 +28,7 @@ use Rattle.asm_places.specs.declared.goal.Asked.{Asked}
 use Rattle.asm_places.specs.declared.goal.Goal.{Goal}
 use Rattle.asm_places.specs.declared.goal.Goal.TheVariants.{Room, Use}
 use Rattle.asm_places.specs.declared.operand.ShapedOperand.{ShapedOperand}
-use Rattle.asm_places.proofs.Shaped.{IsShaped, is_shaped, untied_root, IsInputOf, input_of}
+use Rattle.asm_places.proofs.Shaped.{IsShaped, is_shaped, untied_root, input_of}
 use Rattle.asm_places.proofs.Choices.{spot_registers, no_common_bit}
 use Rattle.asm_places.proofs.Rivals.{rivals_use, rivals_room}
 use Rattle.asm_places.proofs.Takers.{IsTaker, taker, taker_group, input_unless, of_choices_at, early_kind, output_kind, input_kind, group_of_kind}

@@ -1,10 +1,9 @@
 -- The placement of the least assignment is the least roomy one, and where there is no assignment there is none.
-use Rattle.std.proofs.Common.{◌≡◌, ◌≢◌, ℕ, ◌<◌, ◌≤◌, ℤ, List, Bool, true, false, Option, None, Some, slice_get, unwrap_or, refl, sym, ap, subst, ◌∙◌, arith}
-use Rattle.register_search.specs.Assignment.{takes_registers, IsAssignment, IsLeast}
+use Rattle.std.proofs.Common.{◌≡◌, ℕ, ◌<◌, ◌≤◌, true, None, Some, slice_get, unwrap_or, refl, sym, ap, subst, ◌∙◌, arith}
+use Rattle.register_search.specs.Assignment.{takes_registers}
 use Rattle.register_search.specs.declared.class.Class.{Class}
-use Rattle.asm_core.specs.Roomy.{order_of, own_memory, IsLeastRoomy}
+use Rattle.asm_core.specs.Roomy.{order_of, IsLeastRoomy}
 use Rattle.asm_core.specs.Placement.{spot_of, Fits, HasOperand, IsRoomy}
-use Rattle.asm_core.specs.declared.reg.Reg.{Reg}
 use Rattle.asm_core.specs.declared.shape.Kind.{Kind}
 use Rattle.asm_core.specs.declared.shape.Kind.TheVariants.{Register, Memory, Number}
 use Rattle.asm_core.specs.declared.shape.Shape.{Shape}
@@ -13,14 +12,14 @@ use Rattle.asm_core.specs.declared.interface.OperandIface.{OperandIface}
 use Rattle.asm_core.specs.declared.interface.Interface.{Interface}
 use Rattle.asm_core.specs.declared.placement.Spot.{Spot}
 use Rattle.asm_core.specs.declared.placement.Placement.{Placement}
-use Rattle.asm_places.specs.Classes.{AreClasses, kind_class}
+use Rattle.asm_places.specs.Classes.{kind_class}
 use Rattle.asm_core.specs.Placement.{is_output}
 use Rattle.asm_places.specs.Operand.{holds_input}
-use Rattle.asm_places.specs.Placing.{choice_spot, kind_spot, lower_end, IsPlacedBy, IsLeastPlaced, HasNoAssignment}
+use Rattle.asm_places.specs.Placing.{kind_spot, lower_end, IsLeastPlaced, HasNoAssignment}
 use Rattle.asm_places.specs.declared.goal.Goal.TheVariants.{Room}
-use Rattle.asm_places.proofs.Shaped.{in_shape, IsShaped, is_shaped}
+use Rattle.asm_places.proofs.Shaped.{in_shape, is_shaped}
 use Rattle.asm_places.proofs.Choices.{choice_order}
-use Rattle.asm_places.proofs.Takers.{IsTaker, taker}
+use Rattle.asm_places.proofs.Takers.{taker}
 use Rattle.asm_places.proofs.FromPlacement.{choice_from, choices_from, room_register, roomy_assigns}
 use Rattle.asm_places.proofs.ToPlacement.{spot_at, here, register_taken, group_takes, room_roomy}
 use Rattle.asm_places.proofs.Sound.{IsSound}

@@ -7,6 +7,7 @@ pub mod Takers
 pub mod FromPlacement
 pub mod ToPlacement
 pub mod Settled
-pub mod Shapes
+pub mod SoundShapes
 pub mod LeastRoom
 pub mod Meeting
+pub mod ListLaws

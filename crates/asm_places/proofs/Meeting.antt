@@ -1,14 +1,13 @@
 -- Placements in which two places use a register, and the operands that have to use it.
-use Rattle.std.proofs.Common.{◌≡◌, ◌≢◌, ◌⊎◌, inl, inr, ℕ, ◌==◌, ◌||◌, not, List, [], ◌∷◌, ◌++◌, Bool, true, false, Option, None, Some, slice_get, refl, sym, ap, subst, ◌∙◌, arith, if◌then◌else◌}
-use Rattle.std.proofs.lemmas.Bool.{or_cases, or_left, or_right, eqb-true, eq-eqb, both_ways, cases_Bool}
+use Rattle.std.proofs.Common.{◌≡◌, inl, inr, ℕ, ◌+◌, ◌<◌, ◌≤◌, IfSome, IfNone, slice_index_or, ◌==◌, ◌||◌, not, [], ◌∷◌, ◌++◌, Bool, true, false, Option, None, Some, refl, sym, ap, subst, ◌∙◌, arith, if◌then◌else◌}
+use Rattle.std.proofs.lemmas.Bool.{or_cases, or_left, or_right, eqb-true, eq-eqb, both_ways, cases_eq}
 use Rattle.asm_core.specs.Reg.{reg_number}
 use Rattle.asm_core.specs.Lists.{IsMember}
-use Rattle.asm_core.specs.Placement.{spot_of, value_registers, address_registers, HasOperand, IsAllowed, tie_root}
-use Rattle.asm_core.specs.Roomy.{place_registers, IsPlaceOf}
+use Rattle.asm_core.specs.Placement.{spot_of, value_registers, address_registers, IsAllowed, tie_root}
+use Rattle.asm_core.specs.Roomy.{place_registers, IsPlaceOf, ShareRegister}
 use Rattle.asm_core.specs.declared.reg.Reg.{Reg}
 use Rattle.asm_core.specs.declared.sym.Place.{Place}
 use Rattle.asm_core.specs.declared.shape.Shape.{Shape}
-use Rattle.asm_core.specs.declared.interface.OperandIface.{OperandIface}
 use Rattle.asm_core.specs.declared.interface.Interface.{Interface}
 use Rattle.asm_core.specs.declared.placement.Placement.{Placement}
 use Rattle.asm_core.proofs.RegisterLaws.{same_reg}
@@ -20,9 +19,9 @@ use Rattle.asm_places.specs.declared.goal.Asked.{Asked}
 use Rattle.asm_places.specs.declared.goal.Goal.TheVariants.{Use}
 use Rattle.asm_places.specs.declared.operand.ShapedOperand.{ShapedOperand}
 use Rattle.asm_places.proofs.Shaped.{in_shape, operand_is}
-use Rattle.asm_places.proofs.FromPlacement.{IsUsed, AreUsed, choices_from, allowed_assigns}
+use Rattle.asm_places.proofs.FromPlacement.{AreUsed, choices_from, allowed_assigns}
 use Rattle.asm_places.proofs.ToPlacement.{use_allowed, use_used}
-use Rattle.asm_places.proofs.Sound.{IsSound, IsRoot, root_of}
+use Rattle.asm_places.proofs.Sound.{IsSound, root_of}
 
 -- what is asked of the operands for two places and a register
 abbrev pub asked_for : Interface → Shape → Place → Place → Reg → Asked
@@ -106,3 +105,54 @@ shared_used i s p q r at shared = record { each = λ k x is untied t e. used k t
 pub none_shares : (i : Interface) (s : Shape) (p q : Place) (r : Reg) → HasNoAssignment i s (Use (asked_for i s p q r)) → (at : Placement) → IsSharedIn i s p q r at → ⊥
 none_shares i s p q r h at shared =
     h.none (choices_from (Use (asked_for i s p q r)) at, allowed_assigns i s (asked_for i s p q r) h.classes h.are at shared.allowed (shared_used i s p q r at shared))
+
+-- ---- the answers
+
+pub if_some : {A : Type 0} (o : Option A) (P Q : A → Type 0) → ((x : A) → P x → Q x) → IfSome o P → IfSome o Q
+if_some None P Q f h = h
+if_some (Some x) P Q f h = f x h
+
+pub if_none : {A : Type 0} (o : Option A) (P Q : Type 0) → (P → Q) → IfNone o P → IfNone o Q
+if_none None P Q f h = f h
+if_none (Some x) P Q f h = h
+
+-- the registers in their order
+abbrev pub register_at : ℕ → Reg
+register_at n = slice_index_or (Reg.Eax ∷ Reg.Ebx ∷ Reg.Ecx ∷ Reg.Edx ∷ Reg.Esi ∷ Reg.Edi ∷ Reg.Ebp ∷ []) n Reg.Eax
+
+is_register_at : (r : Reg) → register_at (reg_number r) ≡ r
+is_register_at Reg.Eax = refl
+is_register_at Reg.Ebx = refl
+is_register_at Reg.Ecx = refl
+is_register_at Reg.Edx = refl
+is_register_at Reg.Esi = refl
+is_register_at Reg.Edi = refl
+is_register_at Reg.Ebp = refl
+
+number_below_7 : (r : Reg) → reg_number r < 7
+number_below_7 Reg.Eax = omega arith
+number_below_7 Reg.Ebx = omega arith
+number_below_7 Reg.Ecx = omega arith
+number_below_7 Reg.Edx = omega arith
+number_below_7 Reg.Esi = omega arith
+number_below_7 Reg.Edi = omega arith
+number_below_7 Reg.Ebp = omega arith
+
+-- the places meet in none of the first registers
+abbrev pub MeetInNone : Interface → Shape → Place → Place → ℕ → Type 0
+MeetInNone i s p q count = (n : ℕ) → n < count → (at : Placement) → IsSharedIn i s p q (register_at n) at → ⊥
+
+pub meet_in_none_more : (i : Interface) (s : Shape) (p q : Place) (count : ℕ) → MeetInNone i s p q count → ((at : Placement) → IsSharedIn i s p q (register_at count) at → ⊥) → MeetInNone i s p q (count + 1)
+meet_in_none_more i s p q count before here n lt at shared = elim (cases_eq n count) [
+  | inl same ↦ here at (subst (λ m. IsSharedIn i s p q (register_at m) at) same shared)
+  | inr differ ↦ before n (omega arith) at shared
+]
+
+pub meet_in_none : (i : Interface) (s : Shape) (p q : Place) (count : ℕ) → 7 ≤ count → MeetInNone i s p q count → (at : Placement) → ShareRegister i s p q at → ⊥
+meet_in_none i s p q count all none at shared =
+    let here : register_at (reg_number shared.register) ≡ shared.register = is_register_at shared.register in
+    none (reg_number shared.register) (let below = number_below_7 shared.register in omega arith) at
+    (subst (λ r. IsSharedIn i s p q r at) (sym here) (record { allowed = shared.allowed; first = shared.in_first; second = shared.in_second }))
+
+pub shared_in : (i : Interface) (s : Shape) (p q : Place) (r : Reg) (at : Placement) → IsSharedIn i s p q r at → ShareRegister i s p q at
+shared_in i s p q r at shared = record { allowed = shared.allowed; register = r; in_first = shared.first; in_second = shared.second }

@@ -1,10 +1,9 @@
 -- Which classes are rivals, by what is known of their operands.
-use Rattle.std.proofs.Common.{◌≡◌, ◌≢◌, ℕ, ◌+◌, ◌==◌, ◌&&◌, ◌||◌, Bool, true, false, refl, sym, ap, ◌∙◌, arith}
+use Rattle.std.proofs.Common.{◌≡◌, ◌≢◌, ℕ, ◌+◌, ◌&&◌, ◌||◌, Bool, true, false, refl, arith}
 use Rattle.std.proofs.lemmas.Bool.{ne_eqb}
 use Rattle.register_search.specs.Assignment.{are_rivals}
 use Rattle.asm_places.specs.Classes.{group_for}
 use Rattle.asm_places.specs.declared.goal.Asked.{Asked}
-use Rattle.asm_places.specs.declared.goal.Goal.{Goal}
 use Rattle.asm_places.specs.declared.goal.Goal.TheVariants.{Room, Use}
 
 pub rivals_use : (a : Asked) (k j : ℕ) (e o h f p g : Bool) → k ≢ j → are_rivals (group_for (Use a) k e o h) (group_for (Use a) j f p g) ≡ (e || (f || (o && p)))

@@ -1,10 +1,9 @@
 -- The choices that settled classes are left, and the numbers of groups.
-use Rattle.std.proofs.Common.{◌≡◌, ℕ, ◌+◌, ◌<◌, ◌≤◌, List, length, Bool, true, false, None, Some, slice_get, slice_set, replicate, unwrap_or, bit_and, refl, sym, ap, subst, ◌∙◌, arith}
+use Rattle.std.proofs.Common.{◌≡◌, ℕ, ◌+◌, ◌<◌, List, Bool, true, false, Some, slice_get, slice_set, replicate, unwrap_or, bit_and, refl, sym, ap, subst, ◌∙◌, arith}
 use Rattle.std.specs.List.{position_from}
-use Rattle.register_search.specs.Assignment.{takes_registers, may_take, are_rivals, registers_of, IsAssignment, IsLeast, IsSettled, HasFewGroups, with_choice}
+use Rattle.register_search.specs.Assignment.{takes_registers, may_take, registers_of, IsLeast, IsSettled, HasFewGroups}
 use Rattle.register_search.specs.declared.class.Class.{Class}
-use Rattle.register_search.specs.declared.class.Group.{Group}
-use Rattle.register_search.specs.declared.class.Group.TheVariants.{Absent, Exclusive, Numbered}
+use Rattle.register_search.specs.declared.class.Group.TheVariants.{Numbered}
 use Rattle.register_search.proofs.Sets.{each_choice}
 use Rattle.register_search.proofs.FewGroups.{few_groups}
 use Rattle.asm_core.specs.declared.shape.Shape.{Shape}

@@ -1,17 +1,15 @@
 -- Operands in a shape.
-use Rattle.std.proofs.Common.{◌≡◌, ◌⊎◌, inl, inr, [], ◌∷◌, zero, suc, ℕ, ◌+◌, ◌<◌, ◌≤◌, ◌==◌, ◌&&◌, ℤ, Bool, true, false, List, length, Option, None, Some, slice_get, refl, sym, ap, subst, ◌∙◌, arith}
+use Rattle.std.proofs.Common.{◌≡◌, [], ◌∷◌, zero, suc, ℕ, ◌<◌, ◌==◌, true, List, length, Option, None, Some, slice_get, refl, ap, ◌∙◌, arith}
 use Rattle.std.proofs.lemmas.Bool.{and_parts, and_from, eqb-true, eq-eqb}
-use Rattle.asm_core.specs.Placement.{HasOperand, tie_root, is_input, is_output}
+use Rattle.asm_core.specs.Placement.{HasOperand, tie_root, is_input}
 use Rattle.asm_core.specs.declared.shape.Kind.{Kind}
 use Rattle.asm_core.specs.declared.shape.Shape.{Shape}
-use Rattle.asm_core.specs.declared.interface.Role.{Role}
 use Rattle.asm_core.specs.declared.interface.AltIface.{AltIface}
 use Rattle.asm_core.specs.declared.interface.OperandIface.{OperandIface}
 use Rattle.asm_core.specs.declared.interface.Interface.{Interface}
 use Rattle.asm_places.specs.Operand.{operand_in, shaped, shaped_at, is_input_at, is_input_to, holds_input}
 use Rattle.asm_places.specs.declared.operand.ShapedOperand.{ShapedOperand}
-use Rattle.register_search.specs.Table.{some_below}
-use Rattle.register_search.proofs.Placing.{Witness, some_of, some_from}
+use Rattle.register_search.proofs.Placing.{some_of, some_from}
 
 -- an operand of the interface as it is in the shape
 abbrev pub in_shape : OperandIface → AltIface → Kind → ShapedOperand

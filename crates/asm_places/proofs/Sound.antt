@@ -1,6 +1,6 @@
 -- What the operands of a shape keep, where the interface keeps what every interface does.
-use Rattle.std.proofs.Common.{◌≡◌, ◌≢◌, ℕ, ◌<◌, ◌≤◌, ℤ, Bool, true, false, List, [], ◌∷◌, zero, suc, length, Option, None, Some, slice_get, refl, sym, ap, subst, ◌∙◌, arith}
-use Rattle.asm_core.specs.Placement.{HasOperand, tie_root, is_output, is_input}
+use Rattle.std.proofs.Common.{◌≡◌, ℕ, ◌<◌, ◌≤◌, ℤ, true, false, List, [], ◌∷◌, zero, suc, length, Option, None, Some, slice_get, refl, sym, ap, subst, ◌∙◌, arith}
+use Rattle.asm_core.specs.Placement.{HasOperand, tie_root, is_output}
 use Rattle.asm_core.specs.WellFormed.{HasNumber}
 use Rattle.asm_core.specs.declared.shape.Kind.{Kind}
 use Rattle.asm_core.specs.declared.shape.Shape.{Shape}

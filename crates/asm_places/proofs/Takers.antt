@@ -1,9 +1,8 @@
 -- The classes that take registers, and what they stand for.
-use Rattle.std.proofs.Common.{◌≡◌, ◌≢◌, ◌⊎◌, inl, inr, ℕ, ◌+◌, ◌<◌, ◌==◌, ◌&&◌, ◌||◌, not, List, [], ◌∷◌, ◌++◌, length, Bool, true, false, Option, None, Some, slice_get, slice_index_or, refl, sym, ap, subst, ◌∙◌, arith, if◌then◌else◌}
-use Rattle.register_search.specs.Assignment.{takes_registers, may_take}
+use Rattle.std.proofs.Common.{◌≡◌, ℕ, ◌<◌, List, Bool, true, false, Option, None, Some, slice_get, slice_index_or, refl, sym, ap, ◌∙◌, arith}
+use Rattle.register_search.specs.Assignment.{takes_registers}
 use Rattle.register_search.specs.declared.class.Class.{Class}
 use Rattle.register_search.specs.declared.class.Group.{Group}
-use Rattle.register_search.specs.declared.class.Group.TheVariants.{Absent, Exclusive, Numbered}
 use Rattle.register_search.proofs.Sets.{each_choice}
 use Rattle.asm_core.specs.Placement.{is_output, is_input}
 use Rattle.asm_core.specs.declared.reg.Reg.{Reg}
@@ -18,7 +17,7 @@ use Rattle.asm_places.specs.Classes.{of_choices, asked_of, group_for, class_for,
 use Rattle.asm_places.specs.declared.goal.Goal.{Goal}
 use Rattle.asm_places.specs.declared.goal.Goal.TheVariants.{Room, Use}
 use Rattle.asm_places.specs.declared.operand.ShapedOperand.{ShapedOperand}
-use Rattle.asm_places.proofs.Shaped.{IsShaped, is_shaped, untied_root, get_inside, IsInputOf, holds}
+use Rattle.asm_places.proofs.Shaped.{is_shaped, untied_root, get_inside, holds}
 
 pub of_choices_at : (test : ℕ → Bool) (choice : ℕ) → choice < 8 → slice_index_or (of_choices test) choice false ≡ test choice
 of_choices_at test choice below = each_choice (λ j. slice_index_or (of_choices test) j false ≡ test j) refl refl refl refl refl refl refl refl choice below

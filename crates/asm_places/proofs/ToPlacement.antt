@@ -1,16 +1,15 @@
 -- An assignment of the classes gives a placement.
-use Rattle.std.proofs.Common.{◌≡◌, ◌≢◌, ◌⊎◌, inl, inr, ℕ, ◌+◌, ◌*◌, ◌/◌, ◌%◌, ◌^◌, ◌<◌, ◌≤◌, ◌==◌, ◌&&◌, ◌||◌, not, ℤ, pos, negsuc, ◌≤ℤ◌, List, [], ◌∷◌, ◌++◌, length, Bool, true, false, IsTrue, Option, None, Some, slice_get, slice_index_or, unwrap_or, bit_and, refl, sym, ap, subst, ◌∙◌, arith, if◌then◌else◌}
+use Rattle.std.proofs.Common.{◌≡◌, ◌≢◌, ◌⊎◌, inl, inr, ℕ, ◌<◌, ◌==◌, ◌&&◌, not, ℤ, ◌≤ℤ◌, List, [], ◌∷◌, ◌++◌, Bool, true, false, IsTrue, Option, None, Some, slice_get, unwrap_or, refl, sym, ap, subst, ◌∙◌, arith, if◌then◌else◌}
 use Rattle.std.specs.Int.{bit_at}
 use Rattle.std.proofs.lemmas.Int.{ints}
-use Rattle.std.proofs.lemmas.Bool.{and_from, and_parts, or_left, or_right, or_cases, eqb-true, eq-eqb, not-true, both_ways}
-use Rattle.register_search.specs.Assignment.{takes_registers, may_take, are_rivals, registers_of, IsAssignment}
+use Rattle.std.proofs.lemmas.Bool.{and_from, and_parts, or_left, or_right, eqb-true, eq-eqb, not-true, both_ways}
+use Rattle.register_search.specs.Assignment.{takes_registers, are_rivals, IsAssignment}
 use Rattle.register_search.specs.declared.class.Class.{Class}
 use Rattle.register_search.proofs.Sets.{each_choice}
 use Rattle.asm_core.specs.Reg.{reg_number, IsIn}
 use Rattle.asm_core.specs.Lists.{IsMember, AreApart}
-use Rattle.asm_core.specs.Roomy.{own_memory}
 use Rattle.asm_core.specs.WellFormed.{HasNumber}
-use Rattle.asm_core.specs.Placement.{spot_of, value_registers, address_registers, form_registers, input_registers, Fits, NoneIn, IsForm, IsNumber, HasOperand, IsAllowed, IsRoomy, tie_root, is_output, is_input}
+use Rattle.asm_core.specs.Placement.{spot_of, value_registers, address_registers, input_registers, Fits, IsNumber, HasOperand, IsAllowed, IsRoomy, tie_root, is_output, is_input}
 use Rattle.asm_core.specs.declared.reg.Reg.{Reg}
 use Rattle.asm_core.specs.declared.reg.Reg.TheVariants.{Eax, Ebx, Ecx, Edx, Esi, Edi, Ebp}
 use Rattle.asm_core.specs.declared.reg.RegSet.{RegSet}
@@ -29,12 +28,12 @@ use Rattle.asm_places.specs.declared.goal.Asked.{Asked}
 use Rattle.asm_places.specs.declared.goal.Goal.{Goal}
 use Rattle.asm_places.specs.declared.goal.Goal.TheVariants.{Room, Use}
 use Rattle.asm_places.specs.declared.operand.ShapedOperand.{ShapedOperand}
-use Rattle.asm_places.proofs.Shaped.{in_shape, operand_is, IsShaped, is_shaped, untied_root, outside_root, IsInputOf, holds}
+use Rattle.asm_places.proofs.Shaped.{in_shape, operand_is, IsShaped, is_shaped, untied_root, outside_root, holds}
 use Rattle.asm_places.proofs.Choices.{spot_registers, no_common}
 use Rattle.asm_places.proofs.Rivals.{rivals_use, rivals_room}
 use Rattle.asm_places.proofs.Takers.{address_group, class_of, input_unless, of_choices_at, early_kind, output_kind, input_kind, group_of_kind}
 use Rattle.asm_places.proofs.FromPlacement.{takes_itself, in_first, AreUsed}
-use Rattle.asm_places.proofs.Sound.{IsSound, IsRoot, IsTied, root_of, output_untied, has_inside}
+use Rattle.asm_places.proofs.Sound.{IsSound, root_of, output_untied, has_inside}
 
 -- ---- what a choice allows
 

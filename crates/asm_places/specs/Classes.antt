@@ -11,7 +11,6 @@ use Rattle.register_search.specs.declared.class.Group.{Group}
 use Rattle.register_search.specs.declared.class.Group.TheVariants.{Absent, Exclusive, Numbered}
 use Rattle.register_search.specs.declared.class.Class.{Class}
 use Rattle.asm_places.specs.Operand.{operand_in, holds_input, has_register, takes}
-use Rattle.asm_places.specs.declared.goal.Asked.{Asked}
 use Rattle.asm_places.specs.declared.goal.Goal.{Goal}
 use Rattle.asm_places.specs.declared.operand.ShapedOperand.{ShapedOperand}
 

@@ -1,5 +1,5 @@
 -- Operands in a shape, and the operands that a class stands for.
-use Rattle.std.specs.Prelude.{◌≡◌, ℕ, ◌==◌, ◌&&◌, ◌||◌, Bool, true, false, not, Option, None, Some, length, slice_get}
+use Rattle.std.specs.Prelude.{ℕ, ◌==◌, ◌&&◌, ◌||◌, Bool, false, Option, None, Some, length, slice_get}
 use Rattle.std.specs.Int.{bit_at}
 use Rattle.register_search.specs.Table.{some_below}
 use Rattle.asm_core.specs.Reg.{reg_number}

@@ -76,8 +76,9 @@ fn address_class(i: &Interface, k: usize, asked: Option<Reg>) -> Class
         return ABSENT;
     };
     let may = |choice: usize| choice == register.number() && !has_register(i.clobbers, choice);
+    let group = Group::Numbered(2 + k as u8);
     Class {
-        group: Group::Numbered(2 + k as u8),
+        group,
         choices: [
             may(0),
             may(1),

@@ -4,9 +4,11 @@
 
 mod classes;
 mod goal;
+mod listing;
 mod operand;
 mod placing;
 mod sharing;
 
+pub use listing::{ShapesEnd, shapes};
 pub use placing::room;
 pub use sharing::may_share;

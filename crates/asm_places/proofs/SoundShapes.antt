@@ -1,17 +1,16 @@
 -- What each shape of an interface is made of.
-use Rattle.std.proofs.Common.{◌≡◌, ◌⊎◌, inl, inr, ℕ, zero, suc, ◌+◌, ◌<◌, ◌≤◌, ℤ, List, [], ◌∷◌, ◌++◌, length, map, Bool, true, false, not, Option, None, Some, is_some, slice_get, option_to_list, refl, sym, ap, subst, ◌∙◌, append_assoc, length-append, arith, ◌==◌, ◌||◌, if◌then◌else◌}
+use Rattle.std.proofs.Common.{◌≡◌, ◌⊎◌, inl, inr, ℕ, zero, suc, ◌+◌, ◌<◌, List, [], ◌∷◌, ◌++◌, length, map, Bool, true, false, not, Option, None, Some, is_some, slice_get, option_to_list, refl, sym, ap, subst, ◌∙◌, length-append, arith, ◌==◌, ◌||◌, if◌then◌else◌}
 use Rattle.std.specs.List.{flat_map}
 use Rattle.asm_core.specs.Lists.{count_from, IsMember}
-use Rattle.asm_core.specs.Placement.{HasOperand, is_output}
+use Rattle.asm_core.specs.Placement.{HasOperand}
 use Rattle.asm_core.specs.Shape.{letter_kinds, kinds_after, kind_lists, alternative_of, alternatives_of, shapes_of}
-use Rattle.asm_core.specs.WellFormed.{HasAlternative, IsUntiedOutput, IsTie, HasNumber, IsInterface}
+use Rattle.asm_core.specs.WellFormed.{IsInterface}
 use Rattle.asm_core.specs.declared.shape.Kind.{Kind}
 use Rattle.asm_core.specs.declared.shape.Kind.TheVariants.{Register, Memory, Number}
 use Rattle.asm_core.specs.declared.shape.Shape.{Shape}
 use Rattle.asm_core.specs.declared.interface.AltIface.{AltIface}
 use Rattle.asm_core.specs.declared.interface.OperandIface.{OperandIface}
 use Rattle.asm_core.specs.declared.interface.Interface.{Interface}
-use Rattle.asm_places.proofs.Shaped.{get_inside}
 use Rattle.asm_places.proofs.Sound.{IsAtShape, IsTied, IsRange, IsSound}
 
 -- ---- members of lists
@@ -108,7 +107,7 @@ kinds_of before (alt ∷ alts) kinds m =
 
 -- ---- alternatives
 
-inside_get : {A : Type 0} (xs : List A) (k : ℕ) → k < length xs → (x : A) × (slice_get xs k ≡ Some x)
+pub inside_get : {A : Type 0} (xs : List A) (k : ℕ) → k < length xs → (x : A) × (slice_get xs k ≡ Some x)
 inside_get [] k lt = absurd (omega arith)
 inside_get (x ∷ xs) zero lt = (x, refl)
 inside_get (x ∷ xs) (suc k) lt = inside_get xs k (let below : k < length xs = omega arith in below)
