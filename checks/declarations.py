@@ -103,6 +103,11 @@ def headers_of(size):
     return sorted(found.union(HEADERS))
 
 
+def is_compared(text):
+    """Whether gcc takes the file by itself, and it has no `#pragma pack`, which is a known gap of asmck."""
+    return "#pragma pack" not in text and gcc(text, "-fsyntax-only").returncode == 0
+
+
 def main():
     given = arguments(__doc__)
     demand_gcc()
@@ -113,7 +118,7 @@ def main():
         texts = {}
         for header in headers_of(given.size):
             text = preprocessed(f"#include <{header}>\n", folder)
-            if text is not None:
+            if text is not None and is_compared(text):
                 texts[header.replace("/", "_")] = text
                 (cases / header.replace("/", "_")).write_text(text)
         if len(texts) < 12:

@@ -1,5 +1,5 @@
 #!/usr/bin/env python3
-"""Runs the tables of checks/tables against the crates that read C and asm statements, built without a proof by `rt try`.
+"""Runs the tables of checks/tables against the crates that read C and its asm statements, built without a proof.
 
 The tables say what tokens, literals, scopes, declarations, layouts, values, expressions and asm statements of short
 texts are, worked out by hand or by gcc; nothing is proved of them, so they stand in no crate. Both sizes are the
