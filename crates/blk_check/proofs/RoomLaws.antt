@@ -15,7 +15,7 @@ module _ (i : Interface) where
   answered s (Some p) least none = ((λ yes. record { placement = p; roomy = least.roomy }), (λ room. refl))
   answered s None least none = ((λ yes. cc), (λ room. absurd (none room.placement room.roomy)))
 
-  none_of : AnyHasRoom i [] → ⊥
+  pub none_of : AnyHasRoom i [] → ⊥
   none_of any = absurd any.is_shape
 
   in_append : (x s : Shape) (ss : List Shape) → IsMember x (ss ++ s ∷ []) → IsMember x ss ⊎ (x ≡ s)
@@ -35,7 +35,23 @@ module _ (i : Interface) where
       go (inl m) = none (record { shape = any.shape; is_shape = m; room = any.room })
       go (inr e) = this (subst (HasRoom i) e any.room)
 
-member_at : (ss : List Shape) (k : ℕ) (s : Shape) → k < length ss → s ≡ get_or ss k s → IsMember s ss
+pub member_at : (ss : List Shape) (k : ℕ) (s : Shape) → k < length ss → s ≡ get_or ss k s → IsMember s ss
 member_at [] k s lt is = absurd (omega arith)
 member_at (q ∷ ss) zero s lt is = inl is
 member_at (q ∷ ss) (suc k) s lt is = inr (member_at ss k s (omega arith) is)
+
+module _ (i : Interface) (ss : List Shape) (k : ℕ) where
+  -- a turn of a loop that found no room
+  pub none_so_far : (s : Shape) (found : Bool) → k < length ss → s ≡ get_or ss k s → (AnyHasRoom i (take k ss) → ⊥) → IsTrue found ↔ HasRoom i s → found ≡ false → AnyHasRoom i (take (k + 1) ss) → ⊥
+  none_so_far s found lt is none answer not_found any =
+      none_more i s (take k ss) none
+      (λ room. let yes : found ≡ true = answer.1 room in cc)
+      (subst (λ (q : Shape). AnyHasRoom i (take k ss ++ q ∷ [])) (sym is) (subst (AnyHasRoom i) (take_more ss k s lt) any))
+
+  -- and one that found it
+  pub some_there : (s : Shape) → k < length ss → s ≡ get_or ss k s → HasRoom i s → AnyHasRoom i ss
+  some_there s lt is room = record { shape = s; is_shape = member_at ss k s lt is; room = room }
+
+  -- behind the last
+  pub none_there : length ss ≤ k → (AnyHasRoom i (take k ss) → ⊥) → AnyHasRoom i ss → ⊥
+  none_there le none any = none (subst (AnyHasRoom i) (sym (take_all k ss le)) any)

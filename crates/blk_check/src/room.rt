@@ -10,7 +10,6 @@ use asm_core::{Interface, Shape};
 use asm_places::room;
 
 /// Whether some of the interface's shapes has a roomy placement.
-#[tactic(auto, using(crate::proofs::RoomLaws::room_laws))]
 pub fn any_has_room(interface: &Interface, shapes: &[Shape]) -> bool
     requires interface { IsInterface interface.now }
     requires shapes { shapes.now ≡ shapes_of interface.now }
@@ -25,7 +24,6 @@ pub fn any_has_room(interface: &Interface, shapes: &[Shape]) -> bool
 }
 
 /// Whether the shape has a roomy placement.
-#[tactic(auto, using(crate::proofs::RoomLaws::least_laws))]
 fn has_room(interface: &Interface, shape: &Shape) -> bool
     requires interface { IsInterface interface.now }
     requires shape { IsMember shape.now (shapes_of interface.now) }
