@@ -1,5 +1,6 @@
 pub mod Cond
 pub mod Entry
+pub mod Expansion
 pub mod Finding
 pub mod Flag
 pub mod Frame

@@ -1,0 +1,63 @@
+-- Comments in a template and in the text that is made from it (GNU as, "Comments"). `#` begins one that ends before the newline.
+-- `/*` begins one that ends behind `*/`, where it is closed and stands at the beginning or behind a blank, a tab, a newline,
+-- `;`, `:` or `,` (this project's own rule). What a hole stands for begins and ends none.
+use Rattle.std.specs.Prelude.{ℕ, max, ◌==◌, ◌||◌, ◌&&◌, Bool, true, false, List, [], ◌∷◌, map, slice_index, if◌then◌else◌}
+use Rattle.asm_core.specs.declared.piece.Piece.{Piece}
+use Rattle.asm_core.specs.declared.piece.Piece.TheVariants.{Byte, Hole, Unique}
+
+-- What a piece is among bytes: 0 an operand, 1 the number of `%=`; the bytes below 2, which mean nothing, count as 2.
+abbrev pub piece_code : Piece → ℕ
+piece_code (Byte b at) = max b 2
+piece_code (Hole k m at) = 0
+piece_code (Unique at) = 1
+
+-- where the next element stands
+pub data Place : Type 0 where
+  -- outside comments; whether `/*` may begin one there
+  Outside : (begins : Bool) → Place
+  -- in a comment that ends before the newline
+  Rest : Place
+  -- behind the `/` of a `/*`
+  Opened : Place
+  -- in a comment that ends behind `*/`
+  Block : Place
+  -- behind the `*` of its `*/`
+  Closing : Place
+
+-- what `/*` may stand behind
+abbrev pub may_begin_behind : ℕ → Bool
+may_begin_behind c = (c == 32) || (c == 9) || (c == 10) || (c == 59) || (c == 58) || (c == 44)
+
+-- some `*/` stands there
+abbrev pub is_closed : List ℕ → Bool
+is_closed [] = false
+is_closed (c ∷ cs) = ((c == 42) && (slice_index cs 0 == 47)) || is_closed cs
+
+-- behind a `/`: a `*`, and later `*/`
+abbrev pub opens_block : List ℕ → Bool
+opens_block [] = false
+opens_block (c ∷ cs) = (c == 42) && is_closed cs
+
+-- where the element behind one of code c stands, given the codes behind c
+abbrev pub place_behind : Place → ℕ → List ℕ → Place
+place_behind (Outside begins) c cs = if c == 35 then Rest else if begins && ((c == 47) && opens_block cs) then Opened else Outside (may_begin_behind c)
+place_behind Rest c cs = if c == 10 then Outside true else Rest
+place_behind Opened c cs = Block
+place_behind Block c cs = if (c == 42) && (slice_index cs 0 == 47) then Closing else Block
+place_behind Closing c cs = Outside false
+
+-- whether the element of code c stands in a comment, given the place behind it
+abbrev pub is_inside : Place → Place → Bool
+is_inside (Outside begins) (Outside b) = false
+is_inside before after = true
+
+-- whether an element of code c stands in a comment; a newline parts lines in comments too
+abbrev pub is_comment : Place → ℕ → List ℕ → Bool
+is_comment place c cs = if c == 10 then false else is_inside place (place_behind place c cs)
+
+-- what stands outside comments
+unfoldable pub outside_comments : {X : Type 0} → (X → ℕ) → Place → List X → List X
+outside_comments code place [] = []
+outside_comments code place (x ∷ xs) =
+    let rest = outside_comments code (place_behind place (code x) (map code xs)) xs in
+    if is_comment place (code x) (map code xs) then rest else x ∷ rest
