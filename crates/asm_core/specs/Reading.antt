@@ -5,6 +5,7 @@ pub mod Cut
 pub mod Facts
 pub mod Line
 pub mod Operands
+pub mod Placed
 pub mod Text
 pub mod Written
 use Rattle.std.specs.Prelude.{List, [], ◌∷◌, map, Option, None, Some, slice_get}

@@ -1,7 +1,7 @@
 -- The cut of what stands outside comments into statements, labels, prefixes and the bodies of instructions (GNU as,
 -- "Statements" and "Labels"; that prefixes may be statements of their own is its "i386-Prefixes"). It looks at codes alone,
 -- whatever the elements are.
-use Rattle.std.specs.Prelude.{ℕ, zero, suc, ◌+◌, ◌-◌, ◌==◌, ◌||◌, ◌&&◌, nat_le, nat_lt, nat_eq, not, Bool, true, false, List, [], ◌∷◌, ◌++◌, length, map, take, drop, slice_index, Option, None, Some, codes, count_by, if◌then◌else◌}
+use Rattle.std.specs.Prelude.{ℕ, zero, suc, ◌+◌, ◌-◌, ◌==◌, ◌||◌, ◌&&◌, nat_le, nat_lt, nat_eq, not, Bool, true, false, List, [], ◌∷◌, ◌++◌, length, map, take, drop, slice_index, Option, None, Some, codes, if◌then◌else◌}
 use Rattle.std.specs.List.{prefix_len, slice_split, list_all, list_any, flat_map}
 use Rattle.std.specs.Cmp.Lexicographic.{pointwise}
 use Rattle.asm_core.specs.Cond.{entry_named}
@@ -100,7 +100,8 @@ pub record Waiting (X : Type 0) : Type 0 where
 abbrev pub none_waits : {X : Type 0} → Waiting X
 none_waits = record { prefixes = []; froms = [] }
 
-abbrev first_or : {A : Type 0} → List A → A → A
+-- the first, or d where there is none
+abbrev pub first_or : {A : Type 0} → List A → A → A
 first_or [] d = d
 first_or (x ∷ xs) d = x
 
@@ -117,13 +118,11 @@ raws_from w seen (Body body ∷ items) = Live w.prefixes (first_or w.froms body)
 unfoldable pub raws_of : {X : Type 0} → (X → ℕ) → List X → List (Raw X)
 raws_of code xs = raws_from none_waits [] (flat_map (items_of code) (slice_split (λ x. ends_statement (code x)) xs))
 
-abbrev pub is_instruction : {X : Type 0} → Raw X → Bool
-is_instruction (Named name) = false
-is_instruction (Dead from) = true
-is_instruction (Live before from body) = true
-
 abbrev pub instruction_count : {X : Type 0} → List (Raw X) → ℕ
-instruction_count raws = count_by is_instruction raws
+instruction_count [] = 0
+instruction_count (Named name ∷ raws) = instruction_count raws
+instruction_count (Dead from ∷ raws) = 1 + instruction_count raws
+instruction_count (Live before from body ∷ raws) = 1 + instruction_count raws
 
 -- each label with the number of the instruction that it stands before, n being that of the first
 abbrev pub labels_from : {X : Type 0} → ℕ → List (Raw X) → List (List ℕ × ℕ)

@@ -170,9 +170,14 @@ label_in (LineOperand.Immediate d) = None
 label_in (LineOperand.Memory k form) = None
 label_in (LineOperand.Address d base index) = None
 
+-- the target of the operand that is a label, before those of others
+abbrev pub onto_targets : ℕ → Option (Option ℕ) → List Target → List Target
+onto_targets n None others = others
+onto_targets n (Some goal) others = record { inst = n; goal = goal } ∷ others
+
 abbrev pub target_in : ℕ → List LineOperand → List Target
 target_in n [] = []
-target_in n (o ∷ os) = elim (label_in o) [ None ↦ target_in n os | Some goal ↦ record { inst = n; goal = goal } ∷ target_in n os ]
+target_in n (o ∷ os) = onto_targets n (label_in o) (target_in n os)
 
 abbrev pub target_of : ℕ → Reading → List Target
 target_of n (Reading.Read l) = target_in n l.operands
@@ -190,7 +195,7 @@ left_out_from n (Reading.Read l ∷ rs) = left_out_from (n + 1) rs
 left_out_from n (Reading.LeftOut ∷ rs) = n ∷ left_out_from (n + 1) rs
 left_out_from n (Reading.Unread ∷ rs) = left_out_from (n + 1) rs
 
-abbrev disp_arg : Disp → Arg
+abbrev pub disp_arg : Disp → Arg
 disp_arg (Disp.Number n) = Arg.Number n
 disp_arg (Disp.Hole k) = Arg.Hole k
 

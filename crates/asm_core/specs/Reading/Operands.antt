@@ -53,9 +53,13 @@ disp_or leaf n = number_disp n
 unfoldable pub disp_in : List Atom → Option Disp
 disp_in xs = disp_or (hole_of xs) (number_of (map atom_code xs))
 
-abbrev whole_register : Option (Reg × Slice) → Option Place
+abbrev pub whole_register : Option (Reg × Slice) → Option Place
 whole_register (Some (r, Slice.All)) = Some (Place.Reg r)
 whole_register r = None
+
+-- `%` and the name of a 32-bit register
+abbrev pub register_place : List ℕ → Option Place
+register_place text = if slice_index text 0 == 37 then whole_register (register_named (drop 1 text)) else None
 
 abbrev pub place_or : Leaf → Option Place → Option Place
 place_or (leaves.Register place Slice.All count) other = Some place
@@ -63,9 +67,7 @@ place_or leaf other = other
 
 -- a 32-bit register, or a hole that stands for one
 unfoldable pub place_in : List Atom → Option Place
-place_in xs =
-    let text = map atom_code xs in
-    place_or (hole_of xs) (if slice_index text 0 == 37 then whole_register (register_named (drop 1 text)) else None)
+place_in xs = place_or (hole_of xs) (register_place (map atom_code xs))
 
 -- 1, 2, 4 or 8
 abbrev pub scale_of : Option ℤ → Option ℕ

@@ -1,0 +1,4 @@
+-- Reading a template with holes and then placing is reading its text.
+pub mod CutKept
+pub mod LinesPlaced
+pub mod OperandsPlaced
