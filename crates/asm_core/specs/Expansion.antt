@@ -100,13 +100,9 @@ printed size m Spot.Pair = register_text Eax (slice_of size m)
 printed size m (Spot.Number n) = number_text n m
 printed size m (Spot.Memory form) = memory_text form m
 
-abbrev pub operand_size : Option OperandIface → ℕ
-operand_size None = 0
-operand_size (Some o) = o.size
-
 -- operand k under the placement
 abbrev pub operand_text : Interface → Placement → ℕ → Modifier → Option (List ℕ)
-operand_text i p k m = printed (operand_size (slice_get i.operands k)) m (spot_of p k)
+operand_text i p k m = option_and_then (λ (o : OperandIface). printed o.size m (spot_of p k)) (slice_get i.operands k)
 
 abbrev pub with_origin : ℕ → List ℕ → List Sign
 with_origin origin text = map (λ b. record { byte = b; origin = origin }) text
@@ -121,7 +117,7 @@ hole_text false None = None
 abbrev pub piece_text : Interface → Placement → ℕ → Bool → Piece → Result (List Sign) ℕ
 piece_text i p unique inside (Piece.Byte b at) = Ok (with_origin 0 (b ∷ []))
 piece_text i p unique inside (Piece.Unique at) = Ok (with_origin 255 (decimal unique))
-piece_text i p unique inside (Piece.Hole k m at) = elim (hole_text inside (operand_text i p k m)) [ None ↦ Err k | Some text ↦ Ok (with_origin (k + 1) text) ]
+piece_text i p unique inside (Piece.Hole k m at) = elim (hole_text inside (operand_text i p k m)) [ None ↦ Err k | Some text ↦ Ok (with_origin (suc k) text) ]
 
 abbrev pub onto_text : Result (List Sign) ℕ → Result (List Sign) ℕ → Result (List Sign) ℕ
 onto_text (Err k) rest = Err k

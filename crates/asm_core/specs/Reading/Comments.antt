@@ -19,32 +19,29 @@ pub data Place : Type 0 where
   Rest : Place
   -- behind the `/` of a `/*`
   Opened : Place
-  -- in a comment that ends behind `*/`
-  Block : Place
-  -- behind the `*` of its `*/`
-  Closing : Place
+  -- in a comment that ends behind `*/`; whether a `*` of it stands before
+  Block : (star : Bool) → Place
 
 -- what `/*` may stand behind
 abbrev pub may_begin_behind : ℕ → Bool
 may_begin_behind c = (c == 32) || (c == 9) || (c == 10) || (c == 59) || (c == 58) || (c == 44)
 
--- some `*/` stands there
-abbrev pub is_closed : List ℕ → Bool
-is_closed [] = false
-is_closed (c ∷ cs) = ((c == 42) && (slice_index cs 0 == 47)) || is_closed cs
+-- some `*/` stands there; its `*` may be the one before
+abbrev pub is_closed : Bool → List ℕ → Bool
+is_closed star [] = false
+is_closed star (c ∷ cs) = (star && (c == 47)) || is_closed (c == 42) cs
 
 -- behind a `/`: a `*`, and later `*/`
 abbrev pub opens_block : List ℕ → Bool
 opens_block [] = false
-opens_block (c ∷ cs) = (c == 42) && is_closed cs
+opens_block (c ∷ cs) = (c == 42) && is_closed false cs
 
 -- where the element behind one of code c stands, given the codes behind c
 abbrev pub place_behind : Place → ℕ → List ℕ → Place
 place_behind (Outside begins) c cs = if c == 35 then Rest else if begins && ((c == 47) && opens_block cs) then Opened else Outside (may_begin_behind c)
 place_behind Rest c cs = if c == 10 then Outside true else Rest
-place_behind Opened c cs = Block
-place_behind Block c cs = if (c == 42) && (slice_index cs 0 == 47) then Closing else Block
-place_behind Closing c cs = Outside false
+place_behind Opened c cs = Block false
+place_behind (Block star) c cs = if star && (c == 47) then Outside false else Block (c == 42)
 
 -- whether the element of code c stands in a comment, given the place behind it
 abbrev pub is_inside : Place → Place → Bool

@@ -59,7 +59,11 @@ runs_of (s ∷ signs) = elim s.origin [ zero ↦ Run.Byte s.byte ∷ runs_of sig
 
 -- the code of a sign among comments: that of the piece that it comes from
 abbrev pub sign_code : Sign → ℕ
-sign_code s = if s.origin == 0 then max s.byte 2 else if s.origin == 255 then 1 else 0
+sign_code s = code s.origin
+  where
+    code : ℕ → ℕ
+    code zero = max s.byte 2
+    code (suc o) = if o == 254 then 1 else 0
 
 -- a register's place in a text: behind its `%`
 abbrev register_in : List ℕ → Option (Reg × Slice)
@@ -132,11 +136,16 @@ leaf_read (Some fact) text = read_by fact.kind fact text
 abbrev pub atom_with : Piece → Leaf → Atom
 atom_with p leaf = record { piece = p; leaf = leaf }
 
+-- the operand that a run of that origin comes from
+abbrev pub operand_from : ℕ → ℕ
+operand_from zero = 0
+operand_from (suc k) = k
+
 -- a run as an element of a line
 abbrev pub atom_of_run : (ℕ → Option OperandFacts) → Run → Atom
 atom_of_run facts (Run.Byte b) = atom_with (Piece.Byte b 0) leaves.Nothing
 atom_of_run facts (Run.Given o text) =
-    if o == 255 then atom_with (Piece.Unique 0) leaves.Nothing else atom_with (Piece.Hole (o - 1) Modifier.Plain 0) (leaf_read (facts (o - 1)) text)
+    if operand_from o == 254 then atom_with (Piece.Unique 0) leaves.Nothing else atom_with (Piece.Hole (operand_from o) Modifier.Plain 0) (leaf_read (facts (operand_from o)) text)
 
 -- the statements of a text
 unfoldable pub text_raws : Interface → Shape → List Sign → List (Raw Atom)
