@@ -3,3 +3,5 @@ pub mod CommentsLeft
 pub mod CutKept
 pub mod LinesPlaced
 pub mod OperandsPlaced
+pub mod ReadBack
+pub mod Runs
