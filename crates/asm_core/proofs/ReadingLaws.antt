@@ -1,7 +1,9 @@
 -- Reading a template with holes and then placing is reading its text.
 pub mod CommentsLeft
 pub mod CutKept
+pub mod Law
 pub mod LinesPlaced
 pub mod OperandsPlaced
+pub mod OperandsBack
 pub mod ReadBack
 pub mod Runs

@@ -67,22 +67,27 @@ base_text (Base.Reg r) = 37 ∷ reg_name r
 abbrev pub index_text : Reg × ℕ → List ℕ
 index_text x = 44 ∷ (37 ∷ (reg_name x.0 ++ (44 ∷ decimal x.1)))
 
--- `(base)`, `(base,index,scale)` or `(,index,scale)`
+-- `base`, `base,index,scale` or `,index,scale`
 abbrev pub registers_text : Option Base → Option (Reg × ℕ) → List ℕ
 registers_text None None = []
-registers_text (Some b) None = 40 ∷ (base_text b ++ 41 ∷ [])
-registers_text (Some b) (Some x) = 40 ∷ (base_text b ++ (index_text x ++ 41 ∷ []))
-registers_text None (Some x) = 40 ∷ (index_text x ++ 41 ∷ [])
+registers_text (Some b) None = base_text b
+registers_text (Some b) (Some x) = base_text b ++ index_text x
+registers_text None (Some x) = index_text x
 
 abbrev pub disp_text : ℤ → List ℕ
 disp_text (pos zero) = []
 disp_text n = signed_decimal n
 
--- the displacement, left out where it is 0 and a register stands there
+-- an address with registers: they stand in parentheses behind the displacement
+abbrev pub address_text : ℤ → List ℕ → List ℕ
+address_text disp registers = disp_text disp ++ 40 ∷ (registers ++ 41 ∷ [])
+
+-- the displacement is left out where it is 0 and a register stands there
 abbrev pub form_text : Form → List ℕ
-form_text form =
-    if is_none form.base && is_none form.index then signed_decimal form.disp
-    else disp_text form.disp ++ registers_text form.base form.index
+form_text form = elim form.base [
+  | Some b ↦ address_text form.disp (registers_text (Some b) form.index)
+  | None ↦ elim form.index [ Some x ↦ address_text form.disp (registers_text None (Some x)) | None ↦ signed_decimal form.disp ]
+]
 
 -- an address is printed alike with `b`, `w` and `k`
 abbrev pub memory_text : Form → Modifier → Option (List ℕ)

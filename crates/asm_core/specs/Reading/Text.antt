@@ -114,14 +114,14 @@ abbrev first_part : List (List ℕ) → List ℕ
 first_part [] = []
 first_part (p ∷ ps) = p
 
+abbrev pub form_parts : List (List ℕ) → Form
+form_parts [] = form_with (pos 0) []
+form_parts (disp ∷ []) = form_with (number_or_zero (number_of disp)) []
+form_parts (disp ∷ inner ∷ rest) = form_with (number_or_zero (number_of disp)) (up_to 44 (first_part (up_to 41 inner)))
+
 -- the parts of an address, cut at `(`, at `)` and at commas
 unfoldable pub form_read : List ℕ → Form
-form_read text = read (up_to 40 text)
-  where
-    read : List (List ℕ) → Form
-    read [] = form_with (pos 0) []
-    read (disp ∷ []) = form_with (number_or_zero (number_of disp)) []
-    read (disp ∷ inner ∷ rest) = form_with (number_or_zero (number_of disp)) (up_to 44 (first_part (up_to 41 inner)))
+form_read text = form_parts (up_to 40 text)
 
 -- what the bytes that an operand gave say, by its kind
 abbrev pub read_by : Kind → OperandFacts → List ℕ → Leaf
