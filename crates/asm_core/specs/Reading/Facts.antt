@@ -50,12 +50,14 @@ facts_from size root o alt kind = None
 abbrev pub alternative_at : Option OperandIface → ℕ → Option AltIface
 alternative_at o a = option_and_then (λ (o : OperandIface). slice_get o.alts a) o
 
+-- the facts of an operand whose root is that
+abbrev pub facts_with : Interface → Shape → ℕ → Option OperandIface → Option OperandFacts
+facts_with i s root None = None
+facts_with i s root (Some o) = let output = slice_get i.operands root in facts_from o.size root output (alternative_at output s.alternative) (slice_get s.kinds root)
+
 -- Operand k under a shape: a tied operand has its own size, and all else of its output.
 unfoldable pub facts_of : Interface → Shape → ℕ → Option OperandFacts
-facts_of i s k =
-    let root = tie_root i s k in
-    let output = slice_get i.operands root in
-    option_and_then (λ (o : OperandIface). facts_from o.size root output (alternative_at output s.alternative) (slice_get s.kinds root)) (slice_get i.operands k)
+facts_of i s k = facts_with i s (tie_root i s k) (slice_get i.operands k)
 
 -- `al`, `ax` or `eax` by the size
 abbrev pub size_slice : ℕ → Slice
