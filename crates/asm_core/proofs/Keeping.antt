@@ -1,7 +1,7 @@
 -- What is kept from one state to a second and from there to a third, is kept from the first to the third.
 use Rattle.std.proofs.Common.{refl, ◌∙◌}
 use Rattle.asm_core.specs.Machine.{Location, Keeps}
-use Rattle.asm_core.specs.Rows.{Stepped}
+use Rattle.asm_core.specs.MicroOps.{Stepped}
 use Rattle.asm_core.proofs.Runs.{HoldsAfter}
 use Rattle.asm_core.specs.declared.machine.Machine.{Machine}
 

@@ -1,6 +1,7 @@
 -- What each step keeps, a run keeps. Nothing here knows an instruction.
 use Rattle.std.proofs.Common.{◌≡◌, ℕ, zero, suc, List, drop, Option, None, Some, slice_get, slice_index, refl}
-use Rattle.asm_core.specs.Rows.{Stepped, row_step}
+use Rattle.asm_core.specs.MicroOps.{Stepped}
+use Rattle.asm_core.specs.Rows.{row_step}
 use Rattle.asm_core.specs.Run.{Outcome, at_inst, stopped, after, first_words, run_of}
 use Rattle.asm_core.specs.declared.inst.Inst.{Inst}
 use Rattle.asm_core.specs.declared.inst.Code.{Code}
