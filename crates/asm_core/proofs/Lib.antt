@@ -3,5 +3,4 @@ pub mod FlagLaws
 pub mod Keeping
 pub mod MachineLaws
 pub mod RegisterLaws
-pub mod RowLaws
 pub mod Runs

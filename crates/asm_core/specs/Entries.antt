@@ -34,7 +34,7 @@ use Rattle.asm_core.specs.declared.row.Access.{Access}
 
 -- ---- what a row can name, in the order of sources
 
-abbrev slice_number : Slice → ℕ
+abbrev pub slice_number : Slice → ℕ
 slice_number Slice.Low8 = 0
 slice_number Slice.High8 = 1
 slice_number Slice.Low16 = 2

@@ -1,6 +1,6 @@
 -- The instructions: what each does, as a row of micro-operations (Intel SDM volume 2, 32-bit forms). The choice of undefined
 -- and of named bits is this project's own.
-use Rattle.std.specs.Prelude.{ℕ, zero, suc, ◌+◌, List, [], ◌∷◌, ◌++◌}
+use Rattle.std.specs.Prelude.{ℕ, zero, suc, List, [], ◌∷◌, ◌++◌, Bool, true, false}
 use Rattle.asm_core.specs.RowTerms.{op1, op2, op3, arg, to_arg, flag, to_flag, zero_input, sum_flags}
 use Rattle.asm_core.specs.declared.flag.Flag.{Flag}
 use Rattle.asm_core.specs.declared.inst.Width.{Width}
@@ -56,3 +56,18 @@ row_of Op.Mov w n = mov_row
 row_of Op.Add w n = add_row
 row_of Op.Shl w n = by_count shl_row n
 row_of op w n = []
+
+-- ---- lines whose operands, as they are written, say more than their values do
+
+-- the operations that shift by a count, their first operand
+abbrev pub is_shift : Op → Bool
+is_shift Op.Shl = true
+is_shift op = false
+
+-- a shift by a known count of 0 loads and stores its destination, and leaves it and the flags as they are
+abbrev pub no_shift_row : ℕ → List MicroOp
+no_shift_row d = op1 (Target.Touch d) Function.Value zero_input ∷ []
+
+-- the row of an operation on one register, given the one that it has on any two operands
+abbrev pub self_row : Op → List MicroOp → List MicroOp
+self_row op row = row
