@@ -2,5 +2,7 @@ mod Examples
 pub mod FlagLaws
 pub mod Keeping
 pub mod MachineLaws
+pub mod Puts
 pub mod RegisterLaws
 pub mod Runs
+pub mod StepLaws

@@ -1,7 +1,7 @@
 -- What a line reads, writes, names and uses, and the accesses it makes, whatever the state: from the micro-operations of its
 -- row. What is known before any state, as a count that is a number, is computed; of a choice whose test is known the chosen
 -- branch alone counts.
-use Rattle.std.specs.Prelude.{ℕ, ◌+◌, ◌*◌, ◌/◌, ◌%◌, ◌^◌, ◌==◌, ◌||◌, not, pos, List, [], ◌∷◌, ◌++◌, map, filter, Bool, true, false, Option, None, Some, slice_get, slice_index_or, if◌then◌else◌, bit_or}
+use Rattle.std.specs.Prelude.{ℕ, ◌+◌, ◌*◌, ◌/◌, ◌^◌, ◌==◌, ◌||◌, not, pos, List, [], ◌∷◌, ◌++◌, map, filter, Bool, true, false, Option, None, Some, slice_get, slice_index_or, if◌then◌else◌, bit_or}
 use Rattle.std.specs.List.{filter_map}
 use Rattle.std.specs.Int.{bit_at}
 use Rattle.asm_core.specs.Reg.{reg_number}

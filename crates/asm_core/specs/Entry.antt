@@ -1,10 +1,10 @@
 -- The states in which a block may begin.
-use Rattle.std.specs.Prelude.{◌≡◌, ◌≢◌, ℕ, ◌+◌, ◌*◌, ◌%◌, ◌^◌, ◌<◌, ◌≤◌, zero, suc, List, length, false, IsTrue, Option, None, Some, slice_get}
+use Rattle.std.specs.Prelude.{◌≡◌, ◌≢◌, ℕ, ◌+◌, ◌*◌, ◌%◌, ◌^◌, ◌<◌, ◌≤◌, List, length, false, IsTrue, Option, None, Some, slice_get}
 use Rattle.asm_core.specs.Lists.{IsMember}
 use Rattle.asm_core.specs.Placement.{spot_of, tie_root, is_output}
 use Rattle.asm_core.specs.Shape.{shapes_of, IsLive}
 use Rattle.asm_core.specs.Flag.{flag_in}
-use Rattle.asm_core.specs.Machine.{reg_in, byte_at, covers, scratch_base, IsMachine}
+use Rattle.asm_core.specs.Machine.{reg_in, covers, scratch_base, IsMachine}
 use Rattle.asm_core.specs.Memory.{modulo, address_of, word_at}
 use Rattle.asm_core.specs.declared.reg.Reg.{Reg}
 use Rattle.asm_core.specs.declared.flag.Flag.{Flag}

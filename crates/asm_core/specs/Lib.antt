@@ -13,6 +13,7 @@ pub mod MicroOps
 pub mod Placement
 pub mod Reading
 pub mod Reg
+pub mod RowLaws
 pub mod RowTerms
 pub mod Rows
 pub mod Run

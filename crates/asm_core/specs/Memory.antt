@@ -1,5 +1,5 @@
 -- Addresses, and the values of several bytes of memory and of the scratch.
-use Rattle.std.specs.Prelude.{ℕ, zero, suc, ◌+◌, ◌-◌, ◌*◌, ◌/◌, ◌%◌, ◌^◌, ◌==◌, nat_lt, ◌&&◌, ◌||◌, not, ℤ, pos, negsuc, List, [], ◌∷◌, map, Bool, true, false, Option, None, Some, slice_index, slice_set, if◌then◌else◌}
+use Rattle.std.specs.Prelude.{ℕ, zero, suc, ◌+◌, ◌-◌, ◌*◌, ◌/◌, ◌%◌, ◌^◌, ◌==◌, nat_lt, ◌&&◌, ◌||◌, not, ℤ, pos, negsuc, List, map, Bool, true, false, Option, None, Some, slice_index, slice_set, if◌then◌else◌}
 use Rattle.std.specs.List.{list_any}
 use Rattle.asm_core.specs.Machine.{reg_in, byte_at, covers, scratch_base}
 use Rattle.asm_core.specs.declared.reg.Reg.{Reg}

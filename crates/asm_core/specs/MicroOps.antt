@@ -7,7 +7,6 @@ use Rattle.asm_core.specs.Flag.{flag_in, with_flag}
 use Rattle.asm_core.specs.Function.{bits_of, bit, value_of}
 use Rattle.asm_core.specs.Machine.{reg_in, with_reg}
 use Rattle.asm_core.specs.Memory.{modulo, address_of, word_at, with_word, is_good_access, scratch_word, with_scratch_word}
-use Rattle.asm_core.specs.declared.reg.Reg.{Reg}
 use Rattle.asm_core.specs.declared.reg.Slice.{Slice}
 use Rattle.asm_core.specs.declared.inst.Width.{Width}
 use Rattle.asm_core.specs.declared.inst.Inst.{Inst}

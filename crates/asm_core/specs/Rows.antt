@@ -1,5 +1,5 @@
 -- What each instruction does: its row of the table, and one step of it.
-use Rattle.std.specs.Prelude.{◌≡◌, ℕ, ◌-◌, ◌==◌, ◌&&◌, Bool, true, false, if◌then◌else◌, List, length, Option, None, Some, slice_get}
+use Rattle.std.specs.Prelude.{◌≡◌, ℕ, ◌-◌, ◌==◌, ◌&&◌, Bool, false, if◌then◌else◌, List, length, Option, None, Some, slice_get}
 use Rattle.asm_core.specs.MicroOps.{Stepped, arg_at, row_ended}
 use Rattle.asm_core.specs.Table.{row_of, is_shift, no_shift_row, self_row}
 use Rattle.asm_core.specs.Reg.{reg_number}

@@ -1,6 +1,6 @@
 -- The instructions: what each does, as a row of micro-operations (Intel SDM volume 2, 32-bit forms). The choice of undefined
 -- and of named bits is this project's own.
-use Rattle.std.specs.Prelude.{ℕ, zero, suc, List, [], ◌∷◌, ◌++◌, Bool, true, false}
+use Rattle.std.specs.Prelude.{ℕ, zero, suc, List, [], ◌∷◌, Bool, true, false}
 use Rattle.asm_core.specs.RowTerms.{op1, op2, op3, arg, to_arg, flag, to_flag, zero_input, sum_flags}
 use Rattle.asm_core.specs.declared.flag.Flag.{Flag}
 use Rattle.asm_core.specs.declared.inst.Width.{Width}

@@ -25,6 +25,8 @@ impl Ranges {
     pub fn new(alloc: Global) -> Ranges
         ensures { result ≡ [] }
     {
-        Ranges { items: Vec::new(alloc) }
+        Ranges {
+            items: Vec::new(alloc),
+        }
     }
 }

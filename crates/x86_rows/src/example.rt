@@ -51,6 +51,7 @@ macro_rules! shl {
 }
 
 const SHL: [MicroOp; 17] = shl!(S, 1);
+
 const SHL_ONE: [MicroOp; 17] = shl!(Input::Number(1), 0);
 
 /// The row of an operation with that many operands.

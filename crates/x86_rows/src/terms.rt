@@ -4,15 +4,23 @@
 use asm_core::{Bytes, Flag, Function, Input, MicroOp, Site, Target};
 
 pub const S: Input = Input::Read(Site::Argument(0, Bytes::Whole));
+
 pub const D: Input = Input::Read(Site::Argument(1, Bytes::Whole));
+
 pub const ZERO: Input = Input::Number(0);
 
 pub const TO_D: Target = Target::Site(Site::Argument(1, Bytes::Whole));
+
 pub const TO_CF: Target = Target::Site(Site::Flag(Flag::Cf));
+
 pub const TO_PF: Target = Target::Site(Site::Flag(Flag::Pf));
+
 pub const TO_AF: Target = Target::Site(Site::Flag(Flag::Af));
+
 pub const TO_ZF: Target = Target::Site(Site::Flag(Flag::Zf));
+
 pub const TO_SF: Target = Target::Site(Site::Flag(Flag::Sf));
+
 pub const TO_OF: Target = Target::Site(Site::Flag(Flag::Of));
 
 /// A micro-operation: its target, its function, and one to three inputs.

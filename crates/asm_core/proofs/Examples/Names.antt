@@ -1,6 +1,6 @@
 -- What lines name, use and access.
-use Rattle.std.proofs.Common.{◌≡◌, pos, [], ◌∷◌, List, Option, None, Some, false, true, refl}
-use Rattle.asm_core.specs.Entries.{reads_of, writes_of, named_of, uses_of, accesses_of, origins}
+use Rattle.std.proofs.Common.{◌≡◌, pos, [], ◌∷◌, List, false, true, refl}
+use Rattle.asm_core.specs.Entries.{reads_of, writes_of, named_of, accesses_of, origins}
 use Rattle.asm_core.specs.Rows.{entry_row}
 use Rattle.asm_core.specs.declared.reg.Reg.{Reg}
 use Rattle.asm_core.specs.declared.reg.Slice.{Slice}
@@ -14,8 +14,6 @@ use Rattle.asm_core.specs.declared.sym.Sym.{Sym}
 use Rattle.asm_core.specs.declared.row.Source.{Source}
 use Rattle.asm_core.specs.declared.row.Written.{Written}
 use Rattle.asm_core.specs.declared.row.By.{By}
-use Rattle.asm_core.specs.declared.row.Write.{Write}
-use Rattle.asm_core.specs.declared.row.Access.{Access}
 
 abbrev line : Op → List Arg → Sym
 line op args = record { op = op; width = Width.L; args = args; repeat = Repeat.No; lock = false; place = 0 }
