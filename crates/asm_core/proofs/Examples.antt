@@ -3,6 +3,7 @@ mod Bytes
 mod Changing
 mod Entries
 mod Machines
+mod Names
 mod Numbers
 mod Placements
 mod Runs

@@ -1,6 +1,6 @@
 -- What every interface of a statement keeps beyond its types.
-use Rattle.std.specs.Prelude.{◌≡◌, ℕ, ◌<◌, ◌≤◌, ℤ, ◌≤ℤ◌, length, true, false, IsTrue, None, Some, slice_get}
-use Rattle.asm_core.specs.Placement.{is_output, IsNumber}
+use Rattle.std.specs.Prelude.{◌≡◌, ℕ, ◌<◌, ◌≤◌, ℤ, ◌≤ℤ◌, length, false, IsTrue, None, Some, slice_get}
+use Rattle.asm_core.specs.Placement.{is_output}
 use Rattle.asm_core.specs.declared.interface.AltIface.{AltIface}
 use Rattle.asm_core.specs.declared.interface.OperandIface.{OperandIface}
 use Rattle.asm_core.specs.declared.interface.Interface.{Interface}
