@@ -5,6 +5,7 @@ mod Entries
 mod Machines
 mod Names
 mod Numbers
+mod Pieces
 mod Placements
 mod Runs
 mod Shapes

@@ -1,3 +1,4 @@
+pub mod Comments
 pub mod Cond
 pub mod Entries
 pub mod Entry
@@ -11,6 +12,7 @@ pub mod Lists
 pub mod Machine
 pub mod Memory
 pub mod MicroOps
+pub mod Pieces
 pub mod Placement
 pub mod Reading
 pub mod Reg
@@ -20,4 +22,5 @@ pub mod Rows
 pub mod Run
 pub mod Shape
 pub mod Table
+pub mod TemplateForms
 pub mod WellFormed

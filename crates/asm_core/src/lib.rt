@@ -25,6 +25,7 @@ mod shape;
 mod span;
 mod statement;
 mod sym;
+mod template_form;
 
 pub use cond::Cond;
 pub use duplicate::{Duplicate, duplicate_items};
@@ -51,3 +52,4 @@ pub use span::Span;
 pub use sqlite_items::{Boxed, Items};
 pub use statement::{Body, Part, Parts, Quoted, Statement};
 pub use sym::{Arg, Args, Disp, Place, Sym};
+pub use template_form::{TemplateCut, TemplateForm, WrittenOperand};
