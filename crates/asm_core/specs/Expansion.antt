@@ -4,7 +4,8 @@ use Rattle.std.specs.Option.{option_map, option_and_then}
 use Rattle.std.specs.Fmt.{signed_decimal}
 use Rattle.asm_core.specs.Reg.{reg_name}
 use Rattle.asm_core.specs.Placement.{spot_of}
-use Rattle.asm_core.specs.Reading.Comments.{piece_code, is_comment, place_behind}
+use Rattle.asm_core.specs.Pieces.{piece_code}
+use Rattle.asm_core.specs.Reading.Comments.{is_comment, place_behind}
 use Rattle.asm_core.specs.Reading.Comments as comments
 use Rattle.asm_core.specs.Reading.Facts.{slice_of}
 use Rattle.asm_core.specs.Reading.Text.{Sign}

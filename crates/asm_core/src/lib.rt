@@ -34,7 +34,7 @@ pub use finding::{Cell, END_LINE, Finding, Rule};
 pub use flag::{Flag, FlagSet};
 pub use inst::{Code, Inst, InstArg, Op, Repeat, Width};
 pub use interface::{AltIface, IfaceEnd, Interface, OperandIface, Role};
-pub use lines::{Graph, Label, Lines, LinesEnd, Named, Target};
+pub use lines::{Graph, JumpTarget, Label, Lines, LinesEnd, Named};
 pub use machine::{Fault, Machine, Range};
 pub use mark::{Mark, MarkKind};
 pub use memory::Memory;

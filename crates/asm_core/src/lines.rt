@@ -16,7 +16,7 @@ pub struct Label {
 
 /// Where an instruction jumps, both counted from 0; `None` where there is no such label.
 #[derive(Clone, Copy, Debug, PartialEq, Eq)]
-pub struct Target {
+pub struct JumpTarget {
     pub inst: u32,
     pub goal: Option<u32>,
 }
@@ -42,7 +42,7 @@ pub struct Lines {
     pub left_out: Items<u32>,
     pub labels: Items<Label>,
     /// One for each instruction that jumps.
-    pub targets: Items<Target>,
+    pub targets: Items<JumpTarget>,
 }
 
 /// Why a template has no lines.

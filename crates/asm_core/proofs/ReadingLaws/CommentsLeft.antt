@@ -2,7 +2,8 @@
 use Rattle.std.proofs.Common.{◌≡◌, ℕ, zero, suc, ◌+◌, ◌==◌, ◌&&◌, ◌||◌, ◌<◌, ◌^◌, max, List, [], ◌∷◌, ◌++◌, length, map, Bool, true, false, cond, Option, None, Some, Result, Ok, Err, decimal, refl, ap, sym, ◌∙◌, append_assoc, arith}
 use Rattle.std.specs.List.{flat_map}
 use Rattle.std.proofs.lemmas.List.{map-append}
-use Rattle.asm_core.specs.Reading.Comments.{piece_code, Place, is_closed, opens_block, place_behind, is_inside, is_comment, outside_comments}
+use Rattle.asm_core.specs.Pieces.{piece_code}
+use Rattle.asm_core.specs.Reading.Comments.{Place, is_closed, opens_block, place_behind, is_inside, is_comment, outside_comments}
 use Rattle.asm_core.specs.Reading.Text.{Sign, sign_code}
 use Rattle.asm_core.specs.Expansion.{operand_text, with_origin, hole_text, piece_text, onto_text, expansion_from}
 use Rattle.asm_core.specs.declared.piece.Modifier.{Modifier}

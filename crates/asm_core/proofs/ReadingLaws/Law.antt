@@ -7,7 +7,8 @@ use Rattle.std.specs.Fmt.{signed_decimal}
 use Rattle.std.specs.Option.{option_map, option_and_then}
 use Rattle.asm_core.specs.Placement.{spot_of, IsForm, IsAllowed}
 use Rattle.asm_core.specs.WellFormed.{IsInterface}
-use Rattle.asm_core.specs.Reading.Comments.{piece_code, outside_comments}
+use Rattle.asm_core.specs.Pieces.{piece_code}
+use Rattle.asm_core.specs.Reading.Comments.{outside_comments}
 use Rattle.asm_core.specs.Reading.Comments as comments
 use Rattle.asm_core.specs.Reading.Cut.{Raw, raws_of, instruction_count}
 use Rattle.asm_core.specs.Reading.Operands.{atom_code}

@@ -4,7 +4,7 @@ use Rattle.std.proofs.lemmas.List.{drop-map, take-map, length-map, map-append}
 use Rattle.std.specs.Option.{option_map}
 use Rattle.asm_core.proofs.ReadingLaws.CutKept.{KeepsCodes, codes-kept, begun-kept, if-map}
 use Rattle.asm_core.specs.Placement.{spot_of}
-use Rattle.asm_core.specs.Reading.Comments.{piece_code}
+use Rattle.asm_core.specs.Pieces.{piece_code}
 use Rattle.asm_core.specs.Reading.Cut.{is_blank, begun}
 use Rattle.asm_core.specs.Reading.Written.{register_named, number_of}
 use Rattle.asm_core.specs.Reading.Text.{atom_with}

@@ -163,9 +163,9 @@ row_name row = take (prefix_len (λ c. not (c == 0)) row.name) row.name
 
 abbrev pub with_condition : Operation → List ℕ → Option Op
 with_condition (Operation.Of op) rest = if length rest == 0 then Some op else None
-with_condition Operation.Cmov rest = option_map (λ c. Op.Mov) (cond_named rest)
-with_condition Operation.Set rest = option_map (λ c. Op.Mov) (cond_named rest)
-with_condition Operation.Jump rest = option_map (λ c. Op.Mov) (cond_named rest)
+with_condition Operation.Cmov rest = option_map Op.Cmov (cond_named rest)
+with_condition Operation.Set rest = option_map Op.Set (cond_named rest)
+with_condition Operation.Jump rest = option_map Op.J (cond_named rest)
 
 -- what a name stands for in a row: the row's name, with a condition behind it where the row has one
 abbrev pub op_in : NameRow → List ℕ → Option Op

@@ -1,15 +1,7 @@
 -- Comments in a template and in the text that is made from it (GNU as, "Comments"). `#` begins one that ends before the newline.
 -- `/*` begins one that ends behind `*/`, where it is closed and stands at the beginning or behind a blank, a tab, a newline,
 -- `;`, `:` or `,` (this project's own rule). What a hole stands for begins and ends none.
-use Rattle.std.specs.Prelude.{ℕ, max, ◌==◌, ◌||◌, ◌&&◌, Bool, true, false, List, [], ◌∷◌, map, slice_index, if◌then◌else◌}
-use Rattle.asm_core.specs.declared.piece.Piece.{Piece}
-use Rattle.asm_core.specs.declared.piece.Piece.TheVariants.{Byte, Hole, Unique}
-
--- What a piece is among bytes: 0 an operand, 1 the number of `%=`; the bytes below 2, which mean nothing, count as 2.
-abbrev pub piece_code : Piece → ℕ
-piece_code (Byte b at) = max b 2
-piece_code (Hole k m at) = 0
-piece_code (Unique at) = 1
+use Rattle.std.specs.Prelude.{ℕ, ◌==◌, ◌||◌, ◌&&◌, Bool, true, false, List, [], ◌∷◌, map, slice_index, if◌then◌else◌}
 
 -- where the next element stands
 pub data Place : Type 0 where

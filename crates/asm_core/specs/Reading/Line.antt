@@ -4,7 +4,8 @@ use Rattle.std.specs.Option.{option_map}
 use Rattle.std.specs.List.{prefix_len, filter_map}
 use Rattle.std.specs.Str.Parse.{digits_value}
 use Rattle.asm_core.specs.Reg.{reg_number}
-use Rattle.asm_core.specs.Reading.Comments.{piece_code, outside_comments}
+use Rattle.asm_core.specs.Pieces.{piece_code}
+use Rattle.asm_core.specs.Reading.Comments.{outside_comments}
 use Rattle.asm_core.specs.Reading.Comments as comments
 use Rattle.asm_core.specs.Reading.Cut.{is_blank, is_word, is_digit, begun, is_label, is_number_label, is_unique_label, same_name, Raw, raws_of, labels_from, instruction_count}
 use Rattle.asm_core.specs.Reading.Written.{register_named}
@@ -29,7 +30,7 @@ use Rattle.asm_core.specs.declared.reading.LineOperand.{LineOperand}
 use Rattle.asm_core.specs.declared.interface.Interface.{Interface}
 use Rattle.asm_core.specs.declared.shape.Shape.{Shape}
 use Rattle.asm_core.specs.declared.lines.Label.{Label}
-use Rattle.asm_core.specs.declared.lines.Target.{Target}
+use Rattle.asm_core.specs.declared.lines.JumpTarget.{JumpTarget}
 use Rattle.asm_core.specs.declared.lines.Named.{Named}
 use Rattle.asm_core.specs.declared.lines.Lines.{Lines}
 use Rattle.asm_core.specs.declared.lines.LinesEnd.{LinesEnd}
@@ -171,21 +172,21 @@ label_in (LineOperand.Memory k form) = None
 label_in (LineOperand.Address d base index) = None
 
 -- the target of the operand that is a label, before those of others
-abbrev pub onto_targets : ℕ → Option (Option ℕ) → List Target → List Target
+abbrev pub onto_targets : ℕ → Option (Option ℕ) → List JumpTarget → List JumpTarget
 onto_targets n None others = others
 onto_targets n (Some goal) others = record { inst = n; goal = goal } ∷ others
 
-abbrev pub target_in : ℕ → List LineOperand → List Target
+abbrev pub target_in : ℕ → List LineOperand → List JumpTarget
 target_in n [] = []
 target_in n (o ∷ os) = onto_targets n (label_in o) (target_in n os)
 
-abbrev pub target_of : ℕ → Reading → List Target
+abbrev pub target_of : ℕ → Reading → List JumpTarget
 target_of n (Reading.Read l) = target_in n l.operands
 target_of n Reading.LeftOut = []
 target_of n Reading.Unread = []
 
 -- the targets of the instructions that jump, n being the number of the first
-abbrev pub targets_from : ℕ → List Reading → List Target
+abbrev pub targets_from : ℕ → List Reading → List JumpTarget
 targets_from n [] = []
 targets_from n (r ∷ rs) = target_of n r ++ targets_from (n + 1) rs
 

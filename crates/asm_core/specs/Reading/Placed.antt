@@ -3,7 +3,8 @@ use Rattle.std.specs.Prelude.{◌≡◌, ℕ, ◌^◌, ◌<◌, ◌≤◌, ℤ, 
 use Rattle.std.specs.Option.{option_map}
 use Rattle.asm_core.specs.Placement.{spot_of, IsForm, IsAllowed}
 use Rattle.asm_core.specs.Expansion.{expansion_of}
-use Rattle.asm_core.specs.Reading.Comments.{piece_code, outside_comments}
+use Rattle.asm_core.specs.Pieces.{piece_code}
+use Rattle.asm_core.specs.Reading.Comments.{outside_comments}
 use Rattle.asm_core.specs.Reading.Comments as comments
 use Rattle.asm_core.specs.Reading.Text.{Sign, TextCode, code_of_text, register_arg, number_arg, memory_arg, address_arg}
 use Rattle.asm_core.specs.declared.reg.Reg.{Reg}

@@ -33,7 +33,7 @@ use Rattle.asm_core.specs.declared.reading.Leaf.TheVariants as leaves
 use Rattle.asm_core.specs.declared.reading.Atom.{Atom}
 use Rattle.asm_core.specs.declared.reading.LineOperand.{LineOperand}
 use Rattle.asm_core.specs.declared.lines.Label.{Label}
-use Rattle.asm_core.specs.declared.lines.Target.{Target}
+use Rattle.asm_core.specs.declared.lines.JumpTarget.{JumpTarget}
 
 -- a byte with where it comes from: 0 the template, k + 1 operand k, 255 the number that `%=` gave
 pub record Sign : Type 0 where
@@ -202,7 +202,7 @@ inst_of count l = record {
 pub record TextCode : Type 0 where
   pub insts : List (Option Inst)
   pub labels : List Label
-  pub targets : List Target
+  pub targets : List JumpTarget
 
 abbrev pub text_inst : ℕ → Reading → Option Inst
 text_inst count r = option_map (inst_of count) (line_read r)
