@@ -7,6 +7,7 @@ mod Names
 mod Numbers
 mod Pieces
 mod Placements
+mod Readings
 mod Runs
 mod Shapes
 mod Values

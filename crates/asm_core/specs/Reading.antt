@@ -4,6 +4,7 @@ pub mod Comments
 pub mod Cut
 pub mod Facts
 pub mod Line
+pub mod Names
 pub mod Operands
 pub mod Placed
 pub mod Text
