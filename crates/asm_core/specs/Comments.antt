@@ -1,6 +1,6 @@
 -- Comments in a template. `#` begins one that goes on to the newline. `/*` begins one where a statement, an operand or a
 -- word may begin, if it is closed (GNU as, "Comments"; where `/*` may begin one is this project's own rule).
-use Rattle.std.specs.Prelude.{ℕ, Bool, true, false, List, [], ◌∷◌, ◌+◌, ◌-◌, ◌==◌, ◌||◌, ◌&&◌, nat_lt, if◌then◌else◌, Option, Some, None, unwrap_or, length, map, drop, slice_index}
+use Rattle.std.specs.Prelude.{ℕ, Bool, true, false, List, [], ◌∷◌, ◌+◌, ◌-◌, ◌==◌, ◌||◌, ◌&&◌, nat_lt, if◌then◌else◌, Option, Some, None, unwrap_or, map, drop, slice_index}
 use Rattle.std.specs.List.{list_any}
 
 -- the number is in the list

@@ -1,11 +1,10 @@
 -- The pieces of a template, as the assembler gets them in the first dialect (GCC manual, "Extended Asm"). What may stand
 -- beside an operand and around `%=` is this project's own rule: an operand is then a whole part of the line.
-use Rattle.std.specs.Prelude.{◌≡◌, ◌<◌, ℕ, Bool, true, false, List, [], ◌∷◌, ◌++◌, ◌+◌, ◌-◌, ◌==◌, ◌||◌, ◌&&◌, not, IsTrue, if◌then◌else◌, Option, Some, None, Result, Ok, Err, length, map, max, take, drop, slice_index, option_map, filter_map, All}
+use Rattle.std.specs.Prelude.{◌<◌, ℕ, Bool, true, false, List, [], ◌∷◌, ◌++◌, ◌-◌, ◌==◌, ◌||◌, ◌&&◌, not, IsTrue, if◌then◌else◌, Option, Some, None, Result, Ok, Err, length, map, max, take, slice_index, option_map, filter_map, All}
 use Rattle.std.specs.List.{list_any, suffix_len}
-use Rattle.asm_core.specs.declared.mark.Mark.{Mark}
 use Rattle.asm_core.specs.declared.mark.MarkKind.TheVariants.{Template}
 use Rattle.asm_core.specs.declared.piece.Modifier.{Modifier}
-use Rattle.asm_core.specs.declared.piece.Modifier.TheVariants.{Plain, B, W, K, H, C}
+use Rattle.asm_core.specs.declared.piece.Modifier.TheVariants.{C}
 use Rattle.asm_core.specs.declared.piece.Piece.{Piece}
 use Rattle.asm_core.specs.declared.piece.Piece.TheVariants as pieces
 use Rattle.asm_core.specs.declared.piece.PiecesEnd.{PiecesEnd}

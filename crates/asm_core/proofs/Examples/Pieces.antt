@@ -1,6 +1,6 @@
 -- Templates and their pieces. What each gives was worked out by hand from GCC's manual and the rules; a number where a
 -- template is outside is the offset of the leftmost form that is.
-use Rattle.std.proofs.Common.{◌≡◌, ℕ, true, false, List, [], ◌∷◌, ◌++◌, map, Option, Some, None, Ok, Err, codes, refl}
+use Rattle.std.proofs.Common.{◌≡◌, ℕ, true, false, List, [], ◌∷◌, map, Option, Some, None, Ok, Err, codes, refl}
 use Rattle.asm_core.specs.declared.mark.MarkKind.TheVariants.{Template}
 use Rattle.asm_core.specs.declared.piece.Modifier.TheVariants.{Plain, B, W, K, H, C}
 use Rattle.asm_core.specs.declared.piece.Piece.TheVariants.{Byte, Hole, Unique}

@@ -1,11 +1,10 @@
 -- What stands outside comments in a template's text is the text of what stands outside comments in the template.
-use Rattle.std.proofs.Common.{◌≡◌, ℕ, zero, suc, ◌+◌, ◌==◌, ◌&&◌, ◌||◌, ◌<◌, ◌^◌, max, List, [], ◌∷◌, ◌++◌, length, map, Bool, true, false, cond, Option, None, Some, Result, Ok, Err, decimal, refl, ap, sym, ◌∙◌, append_assoc, arith}
+use Rattle.std.proofs.Common.{◌≡◌, ℕ, suc, ◌==◌, ◌<◌, max, List, [], ◌∷◌, ◌++◌, length, map, Bool, true, false, cond, Option, None, Some, decimal, refl, sym, ◌∙◌, arith}
 use Rattle.std.specs.List.{flat_map}
-use Rattle.std.proofs.lemmas.List.{map-append}
 use Rattle.asm_core.specs.Pieces.{piece_code}
-use Rattle.asm_core.specs.Reading.Comments.{Place, is_closed, opens_block, place_behind, is_inside, is_comment, outside_comments}
+use Rattle.asm_core.specs.Reading.Comments.{Place, is_closed, opens_block, place_behind, is_comment, outside_comments}
 use Rattle.asm_core.specs.Reading.Text.{Sign, sign_code}
-use Rattle.asm_core.specs.Expansion.{operand_text, with_origin, hole_text, piece_text, onto_text, expansion_from}
+use Rattle.asm_core.specs.Expansion.{operand_text, with_origin}
 use Rattle.asm_core.specs.declared.piece.Modifier.{Modifier}
 use Rattle.asm_core.specs.declared.piece.Piece.{Piece}
 use Rattle.asm_core.specs.declared.placement.Placement.{Placement}
@@ -212,8 +211,8 @@ module _ (i : Interface) (p : Placement) (unique : ℕ) where
     outside-given place x n origin m is text some ps code signs same =
         let marks = outside-marks origin m is (signs_of ps) place some.first some.rest in
         let given : outside_comments sign_code place (with_origin origin text ++ signs_of ps)
-            ≡ cond (hides place) (signs_of (outside_comments piece_code (after_mark place) ps)) (piece_signs x ++ signs_of (outside_comments piece_code (after_mark place) ps))
-            = rw (signs, some.whole, ← same) marks in
+        ≡ cond (hides place) (signs_of (outside_comments piece_code (after_mark place) ps)) (piece_signs x ++ signs_of (outside_comments piece_code (after_mark place) ps))
+        = rw (signs, some.whole, ← same) marks in
         given
         ∙ rw (code, is_comment-mark place n (map piece_code ps), place_behind-mark place n (map piece_code ps)) (signs-if (hides place) x (outside_comments piece_code (after_mark place) ps))
 

@@ -1,8 +1,8 @@
 -- The cut looks at codes alone: it commutes with every map that keeps them.
-use Rattle.std.proofs.Common.{◌≡◌, ℕ, zero, suc, ◌+◌, ◌==◌, ◌&&◌, List, [], ◌∷◌, ◌++◌, length, map, take, drop, Bool, true, false, cond, Option, None, Some, refl, ap, sym, ◌∙◌, slice_index}
-use Rattle.std.proofs.lemmas.List.{drop-map, take-map, length-map, map-append}
+use Rattle.std.proofs.Common.{◌≡◌, ℕ, zero, suc, ◌+◌, ◌==◌, ◌&&◌, List, [], ◌∷◌, ◌++◌, length, map, take, drop, Bool, true, false, cond, Option, None, Some, refl, ap, sym, slice_index}
+use Rattle.std.proofs.lemmas.List.{drop-map, length-map, map-append}
 use Rattle.std.specs.List.{slice_split, onto_first, flat_map, list_any}
-use Rattle.asm_core.specs.Reading.Cut.{is_blank, ends_statement, begun, word_len, is_label, is_unique_label, same_name, prefix_named, Item, item_at, items_from, items_of, Raw, Waiting, none_waits, raws_from, raws_of, first_or, labels_from, instruction_count}
+use Rattle.asm_core.specs.Reading.Cut.{ends_statement, begun, word_len, is_label, is_unique_label, same_name, prefix_named, Item, item_at, items_from, items_of, Raw, Waiting, none_waits, raws_from, raws_of, first_or, labels_from, instruction_count}
 use Rattle.asm_core.specs.declared.names.Prefix.{Prefix}
 
 -- a choice between two results commutes with a map
@@ -47,8 +47,14 @@ module _ {X Y : Type 0} (code : X → ℕ) (code' : Y → ℕ) (f : X → Y) (ke
       → item_at code' labels next' (map f xs) n ≡ map (item_map f) (item_at code labels next xs n)
   unfolding item_at
   item_at-kept labels next next' same xs n =
-      rw (codes-kept xs, length-map, drop-map f (n + 1) xs, same true (drop (n + 1) xs), item-kept next next' same xs (prefix_named (take n (map code xs))) n,
-      if-map (map (item_map f)) (labels && (is_label (take n (map code xs)) && (slice_index (map code xs) n == 58))) (Item.Labelled (take n (map code xs)) xs ∷ next true (drop (n + 1) xs)) _)
+      rw (
+        codes-kept xs,
+        length-map,
+        drop-map f (n + 1) xs,
+        same true (drop (n + 1) xs),
+        item-kept next next' same xs (prefix_named (take n (map code xs))) n,
+        if-map (map (item_map f)) (labels && (is_label (take n (map code xs)) && (slice_index (map code xs) n == 58))) (Item.Labelled (take n (map code xs)) xs ∷ next true (drop (n + 1) xs)) _,
+      )
       (if-map (map (item_map f)) (length xs == 0) [] _)
 
   items_from-kept : (left : ℕ) (labels : Bool) (xs : List X) → items_from code' left labels (map f xs) ≡ map (item_map f) (items_from code left labels xs)
@@ -86,8 +92,12 @@ module _ {X Y : Type 0} (code : X → ℕ) (code' : Y → ℕ) (f : X → Y) (ke
   unfolding raws_from
   raws_from-kept w seen [] = dead-kept w.froms
   raws_from-kept w seen (Item.Labelled name from ∷ items) =
-      rw (dead-kept w.froms, raws_from-kept none_waits seen items, raws_from-kept none_waits (name ∷ seen) items,
-      if-map (map (raw_map f)) (is_unique_label name && list_any (same_name name) seen) (Raw.Dead from ∷ raws_from none_waits seen items) (Raw.Named name ∷ raws_from none_waits (name ∷ seen) items))
+      rw (
+        dead-kept w.froms,
+        raws_from-kept none_waits seen items,
+        raws_from-kept none_waits (name ∷ seen) items,
+        if-map (map (raw_map f)) (is_unique_label name && list_any (same_name name) seen) (Raw.Dead from ∷ raws_from none_waits seen items) (Raw.Named name ∷ raws_from none_waits (name ∷ seen) items),
+      )
       (sym (map-append (raw_map f) (map Raw.Dead w.froms) _))
   raws_from-kept w seen (Item.Prefixed p from ∷ items) =
       rw (← map-append (map f) w.froms (from ∷ [])) (raws_from-kept (record { prefixes = w.prefixes ++ p ∷ []; froms = w.froms ++ from ∷ [] }) seen items)

@@ -1,25 +1,25 @@
 -- Reading a template with holes and then placing is reading its text.
-use Rattle.std.proofs.Common.{◌≡◌, ℕ, zero, suc, ◌+◌, ◌==◌, ◌&&◌, ◌<◌, ◌≤◌, ◌^◌, nat_lt, ℤ, pos, negsuc, List, [], ◌∷◌, ◌++◌, length, map, Bool, true, false, cond, Option, None, Some, Result, Ok, Err, decimal, refl, ap, sym, subst, ◌∙◌, slice_get, arith}
+use Rattle.std.proofs.Common.{◌≡◌, ℕ, suc, ◌<◌, ◌≤◌, ◌^◌, nat_lt, ℤ, pos, negsuc, List, [], ◌∷◌, ◌++◌, map, Bool, true, false, cond, Option, None, Some, Ok, Err, decimal, refl, ap, subst, ◌∙◌, slice_get, arith}
 use Rattle.std.proofs.lemmas.Int.{ints}
 use Rattle.std.proofs.lemmas.Bool.{ne_eqb}
 use Rattle.std.proofs.lemmas.Fmt.{decimal_nonempty}
 use Rattle.std.specs.Fmt.{signed_decimal}
 use Rattle.std.specs.Option.{option_map, option_and_then}
-use Rattle.asm_core.specs.Placement.{spot_of, IsForm, IsAllowed}
+use Rattle.asm_core.specs.Placement.{spot_of, IsAllowed}
 use Rattle.asm_core.specs.WellFormed.{IsInterface}
 use Rattle.asm_core.specs.Pieces.{piece_code}
 use Rattle.asm_core.specs.Reading.Comments.{outside_comments}
 use Rattle.asm_core.specs.Reading.Comments as comments
 use Rattle.asm_core.specs.Reading.Cut.{Raw, raws_of, instruction_count}
 use Rattle.asm_core.specs.Reading.Operands.{atom_code}
-use Rattle.asm_core.specs.Reading.Facts.{facts_of, slice_of, leaf_of, atom_of}
-use Rattle.asm_core.specs.Reading.Line.{readings_of, lines_with, lines_of_raws, template_raws, lines_under}
-use Rattle.asm_core.specs.Reading.Text.{Sign, sign_code, runs_of, leaf_read, atom_with, atom_of_run, text_raws, text_with, code_of_text}
+use Rattle.asm_core.specs.Reading.Facts.{facts_of, slice_of, atom_of}
+use Rattle.asm_core.specs.Reading.Line.{readings_of, lines_with, template_raws, lines_under}
+use Rattle.asm_core.specs.Reading.Text.{Sign, sign_code, runs_of, atom_with, atom_of_run, text_raws, code_of_text}
 use Rattle.asm_core.specs.Reading.Placed.{IsWordNumber, IsWordSpot, HasWords, is_apart, code_under, ReadsWhole}
-use Rattle.asm_core.specs.Expansion.{name_of, register_text, number_text, registers_text, disp_text, address_text, form_text, memory_text, printed, operand_text, expansion_of}
-use Rattle.asm_core.proofs.ReadingLaws.CommentsLeft.{IsSome_text, some_text, text_or, GiveText, signs_of, outside-signs}
+use Rattle.asm_core.specs.Expansion.{name_of, register_text, number_text, registers_text, disp_text, form_text, memory_text, printed, operand_text, expansion_of}
+use Rattle.asm_core.proofs.ReadingLaws.CommentsLeft.{IsSome_text, some_text, text_or, GiveText, outside-signs}
 use Rattle.asm_core.proofs.ReadingLaws.Runs.{run_of, runs-signs, IsNamed, AreNamed, expansion-signs, expansion-named}
-use Rattle.asm_core.proofs.ReadingLaws.OperandsPlaced.{placed_atom, placed_all, text_piece}
+use Rattle.asm_core.proofs.ReadingLaws.OperandsPlaced.{placed_atom, placed_all}
 use Rattle.asm_core.proofs.ReadingLaws.OperandsBack.{hole_back, operand_below}
 use Rattle.asm_core.proofs.ReadingLaws.LinesPlaced.{code-placed}
 use Rattle.asm_core.specs.declared.reg.Reg.{Reg}

@@ -1,24 +1,21 @@
 -- Reading lines commutes with placing them.
-use Rattle.std.proofs.Common.{◌≡◌, ℕ, zero, suc, ◌+◌, ◌==◌, ◌&&◌, ◌||◌, List, [], ◌∷◌, ◌++◌, length, map, take, drop, Bool, true, false, cond, Option, None, Some, refl, ap, sym, ◌∙◌, slice_index, slice_get, unwrap_or}
+use Rattle.std.proofs.Common.{◌≡◌, ℕ, ◌+◌, ◌==◌, ◌||◌, List, [], ◌∷◌, length, map, take, drop, Bool, true, false, cond, Option, None, Some, refl, ap, slice_index, slice_get}
 use Rattle.std.proofs.lemmas.List.{drop-map, length-map}
 use Rattle.std.proofs.lemmas.Option.{slice_get-map}
 use Rattle.std.specs.Option.{option_map}
 use Rattle.asm_core.proofs.ReadingLaws.CutKept.{if-map, raw_map, raws_of-kept, labels_from-kept, instruction_count-kept}
 use Rattle.asm_core.proofs.ReadingLaws.OperandsPlaced.{placed_atom, placed_all, placed_operand, keeps_codes, codes-placed, trimmed-placed, operands_of-placed, all_some-placed, text_piece}
-use Rattle.asm_core.specs.Placement.{spot_of}
 use Rattle.asm_core.specs.Reading.Cut.{is_blank, Raw, raws_of, labels_from, instruction_count}
 use Rattle.asm_core.specs.Reading.Operands.{atom_code, trimmed, operands_of, all_some}
 use Rattle.asm_core.specs.Reading.Chosen.{class_of, Choice, choice_of, Prefixed, prefixes_fit}
-use Rattle.asm_core.specs.Reading.Line.{Defined, goal_of, Line, Reading, line_with, line_chosen, line_of_operands, line_at, line_of, name_len, place_from, piece_place, disp_arg, readings_from, readings_of, line_read, label_in, target_in, target_of, targets_from, arg_of, sym_of, inst_of_reading, labels_of, lines_with}
-use Rattle.asm_core.specs.Reading.Text.{inst_arg_of, inst_arg_at, inst_of, text_inst, text_with, register_arg, number_arg, memory_arg, address_arg}
-use Rattle.asm_core.specs.Reading.Placed.{placed_place, placed_disp, placed_base, placed_index, spot_form, operand_under, operand_at, inst_under, code_under}
+use Rattle.asm_core.specs.Reading.Line.{Defined, goal_of, Line, Reading, line_with, line_chosen, line_of_operands, line_at, line_of, name_len, place_from, piece_place, disp_arg, readings_from, readings_of, label_in, target_in, target_of, targets_from, arg_of, sym_of, inst_of_reading, labels_of, lines_with}
+use Rattle.asm_core.specs.Reading.Text.{inst_arg_of, inst_arg_at, inst_of, text_inst, text_with, number_arg}
+use Rattle.asm_core.specs.Reading.Placed.{placed_disp, operand_under, operand_at, inst_under, code_under}
 use Rattle.asm_core.specs.declared.sym.Disp.{Disp}
-use Rattle.asm_core.specs.declared.sym.Arg.{Arg}
 use Rattle.asm_core.specs.declared.piece.Piece.{Piece}
 use Rattle.asm_core.specs.declared.names.Prefix.{Prefix}
 use Rattle.asm_core.specs.declared.names.NameRow.{NameRow}
 use Rattle.asm_core.specs.declared.placement.Placement.{Placement}
-use Rattle.asm_core.specs.declared.inst.InstArg.{InstArg}
 use Rattle.asm_core.specs.declared.reading.Atom.{Atom}
 use Rattle.asm_core.specs.declared.reading.LineOperand.{LineOperand}
 
@@ -65,8 +62,15 @@ module _ (p : Placement) where
   line_at-placed rows goal before place xs n =
       let cs = map atom_code xs in
       let os = operands_of goal (trimmed (drop n xs)) in
-      rw (length-map, codes-placed p xs, drop-map (placed_atom p) n xs, trimmed-placed p (drop n xs), operands_of-placed p goal (trimmed (drop n xs)), all_some-placed p os,
-      line_of_operands-placed rows before (take n cs) place (all_some os))
+      rw (
+        length-map,
+        codes-placed p xs,
+        drop-map (placed_atom p) n xs,
+        trimmed-placed p (drop n xs),
+        operands_of-placed p goal (trimmed (drop n xs)),
+        all_some-placed p os,
+        line_of_operands-placed rows before (take n cs) place (all_some os),
+      )
       (if-map (placed_reading p) ((length xs == n) || is_blank (slice_index cs n)) (line_of_operands rows before (take n cs) place (all_some os)) Reading.Unread)
 
   line_of-placed : (rows : List NameRow) (goal : List ℕ → Option (Option ℕ)) (before : List Prefix) (place : ℕ) (xs : List Atom)
@@ -156,5 +160,11 @@ module _ (p : Placement) where
   code-placed rows xs =
       let raws = raws_of atom_code xs in
       let count = instruction_count raws in
-      rw (raws_of-kept atom_code atom_code (placed_atom p) (keeps_codes p) xs, readings_of-placed rows raws, instruction_count-kept (placed_atom p) raws, labels_of-placed raws,
-      targets_from-placed 0 (readings_of rows raws), insts-placed count (readings_of rows raws)) refl
+      rw (
+        raws_of-kept atom_code atom_code (placed_atom p) (keeps_codes p) xs,
+        readings_of-placed rows raws,
+        instruction_count-kept (placed_atom p) raws,
+        labels_of-placed raws,
+        targets_from-placed 0 (readings_of rows raws),
+        insts-placed count (readings_of rows raws),
+      ) refl

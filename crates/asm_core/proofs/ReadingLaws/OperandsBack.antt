@@ -1,5 +1,5 @@
 -- What an operand's text is read as, is what its hole stands for under the placement.
-use Rattle.std.proofs.Common.{◌≡◌, ℕ, zero, suc, ◌+◌, ◌-◌, ◌/◌, ◌%◌, ◌==◌, ◌&&◌, ◌||◌, ◌<◌, ◌≤◌, ◌^◌, nat_lt, not, ℤ, pos, negsuc, List, [], ◌∷◌, ◌++◌, length, map, drop, Bool, true, false, cond, IsTrue, Option, None, Some, decimal, refl, ap, sym, subst, ◌∙◌, slice_index, slice_get, unwrap_or, arith}
+use Rattle.std.proofs.Common.{◌≡◌, ℕ, zero, suc, ◌/◌, ◌%◌, ◌==◌, ◌&&◌, ◌||◌, ◌<◌, ◌^◌, not, ℤ, List, ◌∷◌, drop, Bool, true, false, cond, IsTrue, Option, None, Some, refl, ap, sym, subst, ◌∙◌, slice_get, arith}
 use Rattle.std.proofs.lemmas.Bool.{eqb-true, ne_eqb}
 use Rattle.std.proofs.lemmas.Option.{slice_get_within}
 use Rattle.std.specs.Fmt.{signed_decimal}
@@ -7,11 +7,11 @@ use Rattle.std.specs.Option.{option_map, option_and_then}
 use Rattle.asm_core.specs.Reg.{IsIn, reg_number}
 use Rattle.asm_core.specs.Placement.{spot_of, HasOperand, Fits, IsAllowed, tie_root}
 use Rattle.asm_core.specs.Placement as placement
-use Rattle.asm_core.specs.WellFormed.{HasAlternative, IsInterface, IsTie, IsUntiedOutput}
-use Rattle.asm_core.specs.Reading.Written.{register_named, number_of}
+use Rattle.asm_core.specs.WellFormed.{IsInterface}
+use Rattle.asm_core.specs.Reading.Written.{register_named}
 use Rattle.asm_core.specs.Reading.Facts.{only_register, fixed_register, allows_byte_names, facts_from, alternative_at, facts_with, facts_of, slice_of, is_byte_slice, place_of, is_fixed_cl, register_leaf, disp_of, number_leaf, memory_leaf, leaf_by, leaf_of}
 use Rattle.asm_core.specs.Reading.Text.{read_register, read_number, form_read, read_by, leaf_read}
-use Rattle.asm_core.specs.Reading.Placed.{placed_place, placed_disp, spot_place, spot_disp, spot_form, IsWordNumber, IsWordSpot, HasWords}
+use Rattle.asm_core.specs.Reading.Placed.{placed_place, placed_disp, spot_place, spot_disp, IsWordNumber, IsWordSpot, HasWords}
 use Rattle.asm_core.specs.Expansion.{name_of, register_text, number_text, form_text, memory_text, printed, operand_text}
 use Rattle.asm_core.proofs.ReadingLaws.OperandsPlaced.{placed_leaf}
 use Rattle.asm_core.proofs.ReadingLaws.ReadBack.{register_back, number_back, form_back, signed_first}

@@ -1,15 +1,15 @@
 -- Reading an operand commutes with placing it.
-use Rattle.std.proofs.Common.{◌≡◌, ℕ, zero, suc, ◌+◌, ◌==◌, ◌&&◌, nat_lt, ℤ, pos, List, [], ◌∷◌, ◌++◌, length, map, take, drop, Bool, true, false, cond, Option, None, Some, refl, ap, sym, ◌∙◌, slice_index, not}
-use Rattle.std.proofs.lemmas.List.{drop-map, take-map, length-map, map-append}
+use Rattle.std.proofs.Common.{◌≡◌, ℕ, zero, suc, ◌+◌, ◌==◌, nat_lt, ℤ, pos, List, [], ◌∷◌, length, map, take, drop, Bool, true, false, cond, Option, None, Some, refl, sym, slice_index}
+use Rattle.std.proofs.lemmas.List.{drop-map, take-map, length-map}
 use Rattle.std.specs.Option.{option_map}
 use Rattle.asm_core.proofs.ReadingLaws.CutKept.{KeepsCodes, codes-kept, begun-kept, if-map}
 use Rattle.asm_core.specs.Placement.{spot_of}
 use Rattle.asm_core.specs.Pieces.{piece_code}
-use Rattle.asm_core.specs.Reading.Cut.{is_blank, begun}
+use Rattle.asm_core.specs.Reading.Cut.{begun}
 use Rattle.asm_core.specs.Reading.Written.{register_named, number_of}
 use Rattle.asm_core.specs.Reading.Text.{atom_with}
-use Rattle.asm_core.specs.Reading.Placed.{placed_place, placed_disp, placed_base, placed_index, spot_place, spot_disp, spot_form}
-use Rattle.asm_core.specs.Reading.Operands.{atom_code, content_len, ended, trimmed, hole_of, disp_or, disp_in, whole_register, register_place, place_or, place_in, scale_or, scale_in, scale_of, before, address, indexed, base_in, index_in, between, enclosed, front_disp, address_at, address_of, register_operand, label_or, written_operand, hole_operand, operand_of, comma_outside, operands_in, operands_of, all_some}
+use Rattle.asm_core.specs.Reading.Placed.{placed_place, placed_disp, placed_base, placed_index, spot_form}
+use Rattle.asm_core.specs.Reading.Operands.{atom_code, ended, trimmed, hole_of, disp_or, disp_in, whole_register, register_place, place_or, place_in, scale_or, scale_in, before, address, indexed, base_in, index_in, between, enclosed, front_disp, address_at, address_of, register_operand, label_or, written_operand, hole_operand, operand_of, comma_outside, operands_in, operands_of, all_some}
 use Rattle.asm_core.specs.declared.reg.Reg.{Reg}
 use Rattle.asm_core.specs.declared.reg.Slice.{Slice}
 use Rattle.asm_core.specs.declared.sym.Place.{Place}
@@ -159,18 +159,39 @@ module _ (p : Placement) where
   index_in-placed : (xs : List Atom) (n : ℕ) → index_in (placed_all xs) n ≡ option_map (placed_index p) (index_in xs n)
   unfolding index_in
   index_in-placed xs n =
-      rw (length-map, take-map (placed_atom p) n xs, drop-map (placed_atom p) (n + 1) xs, trimmed-placed (take n xs), trimmed-placed (drop (n + 1) xs), trimmed-placed xs,
-      place_in-placed (trimmed (take n xs)), scale_in-placed (trimmed (drop (n + 1) xs)), place_in-placed (trimmed xs),
-      indexed-placed (place_in (trimmed (take n xs))) (scale_in (trimmed (drop (n + 1) xs))), indexed-placed (place_in (trimmed xs)) (Some 1))
+      rw (
+        length-map,
+        take-map (placed_atom p) n xs,
+        drop-map (placed_atom p) (n + 1) xs,
+        trimmed-placed (take n xs),
+        trimmed-placed (drop (n + 1) xs),
+        trimmed-placed xs,
+        place_in-placed (trimmed (take n xs)),
+        scale_in-placed (trimmed (drop (n + 1) xs)),
+        place_in-placed (trimmed xs),
+        indexed-placed (place_in (trimmed (take n xs))) (scale_in (trimmed (drop (n + 1) xs))),
+        indexed-placed (place_in (trimmed xs)) (Some 1),
+      )
       (if-map (option_map (placed_index p)) (nat_lt n (length xs)) _ _)
 
   between-placed : (d : Option Disp) (xs : List Atom) (n : ℕ) → between (option_map (placed_disp p) d) (placed_all xs) n ≡ option_map (placed_operand p) (between d xs n)
   unfolding between
   between-placed d xs n =
       let rest = drop (n + 1) xs in
-      rw (length-map, take-map (placed_atom p) n xs, drop-map (placed_atom p) (n + 1) xs, codes-placed rest, trimmed-placed (take n xs), trimmed-placed xs,
-      base_in-placed (trimmed (take n xs)), index_in-placed rest (before 44 (map atom_code rest)), place_in-placed (trimmed xs), some_base-placed (place_in (trimmed xs)),
-      address-placed d (base_in (trimmed (take n xs))) (index_in rest (before 44 (map atom_code rest))), address-placed d (option_map Some (place_in (trimmed xs))) (Some None))
+      rw (
+        length-map,
+        take-map (placed_atom p) n xs,
+        drop-map (placed_atom p) (n + 1) xs,
+        codes-placed rest,
+        trimmed-placed (take n xs),
+        trimmed-placed xs,
+        base_in-placed (trimmed (take n xs)),
+        index_in-placed rest (before 44 (map atom_code rest)),
+        place_in-placed (trimmed xs),
+        some_base-placed (place_in (trimmed xs)),
+        address-placed d (base_in (trimmed (take n xs))) (index_in rest (before 44 (map atom_code rest))),
+        address-placed d (option_map Some (place_in (trimmed xs))) (Some None),
+      )
       (if-map (option_map (placed_operand p)) (nat_lt n (length xs)) _ _)
 
   enclosed-placed : (d : Option Disp) (xs : List Atom) (n : ℕ) → enclosed (option_map (placed_disp p) d) (placed_all xs) n ≡ option_map (placed_operand p) (enclosed d xs n)
@@ -189,8 +210,17 @@ module _ (p : Placement) where
   unfolding address_at
   address_at-placed xs n =
       let rest = drop (n + 1) xs in
-      rw (length-map, take-map (placed_atom p) n xs, drop-map (placed_atom p) (n + 1) xs, length-map, ended-placed (take n xs), front_disp-placed (ended (take n xs)), disp_in-placed xs,
-      enclosed-placed (front_disp (ended (take n xs))) rest (length rest), address-placed (disp_in xs) (Some None) (Some None))
+      rw (
+        length-map,
+        take-map (placed_atom p) n xs,
+        drop-map (placed_atom p) (n + 1) xs,
+        length-map,
+        ended-placed (take n xs),
+        front_disp-placed (ended (take n xs)),
+        disp_in-placed xs,
+        enclosed-placed (front_disp (ended (take n xs))) rest (length rest),
+        address-placed (disp_in xs) (Some None) (Some None),
+      )
       (if-map (option_map (placed_operand p)) (nat_lt n (length xs)) _ _)
 
   address_of-placed : (xs : List Atom) → address_of (placed_all xs) ≡ option_map (placed_operand p) (address_of xs)
@@ -217,8 +247,15 @@ module _ (p : Placement) where
   unfolding written_operand
   written_operand-placed goal xs =
       let text = map atom_code xs in
-      rw (codes-placed xs, drop-map (placed_atom p) 1 xs, disp_in-placed (drop 1 xs), immediate-placed (disp_in (drop 1 xs)), address_of-placed xs, label_or-placed (goal text) (address_of xs),
-      register_case-placed (slice_index text 0 == 37) (register_named (drop 1 text)) (label_or (goal text) (address_of xs)))
+      rw (
+        codes-placed xs,
+        drop-map (placed_atom p) 1 xs,
+        disp_in-placed (drop 1 xs),
+        immediate-placed (disp_in (drop 1 xs)),
+        address_of-placed xs,
+        label_or-placed (goal text) (address_of xs),
+        register_case-placed (slice_index text 0 == 37) (register_named (drop 1 text)) (label_or (goal text) (address_of xs)),
+      )
       (if-map (option_map (placed_operand p)) (slice_index text 0 == 36) (option_map LineOperand.Immediate (disp_in (drop 1 xs))) _)
 
   hole_operand-placed : (leaf : Leaf) (o : Option LineOperand) → hole_operand (placed_leaf p leaf) (option_map (placed_operand p) o) ≡ option_map (placed_operand p) (hole_operand leaf o)
@@ -238,9 +275,16 @@ module _ (p : Placement) where
   operands_in-placed goal zero xs n = refl
   operands_in-placed goal (suc left) xs n =
       let rest = drop (n + 1) xs in
-      rw (length-map, take-map (placed_atom p) n xs, drop-map (placed_atom p) (n + 1) xs, codes-placed rest, trimmed-placed (take n xs), operand_of-placed goal (trimmed (take n xs)),
-      operands_in-placed goal left rest (comma_outside false (map atom_code rest)),
-      if-map (map (option_map (placed_operand p))) (nat_lt n (length xs)) (operands_in goal left rest (comma_outside false (map atom_code rest))) []) refl
+      rw (
+        length-map,
+        take-map (placed_atom p) n xs,
+        drop-map (placed_atom p) (n + 1) xs,
+        codes-placed rest,
+        trimmed-placed (take n xs),
+        operand_of-placed goal (trimmed (take n xs)),
+        operands_in-placed goal left rest (comma_outside false (map atom_code rest)),
+        if-map (map (option_map (placed_operand p))) (nat_lt n (length xs)) (operands_in goal left rest (comma_outside false (map atom_code rest))) [],
+      ) refl
 
   pub operands_of-placed : (goal : List ℕ → Option (Option ℕ)) (xs : List Atom) → operands_of goal (placed_all xs) ≡ map (option_map (placed_operand p)) (operands_of goal xs)
   unfolding operands_of

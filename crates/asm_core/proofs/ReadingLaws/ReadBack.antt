@@ -1,22 +1,21 @@
 -- What an operand prints is read back.
-use Rattle.std.proofs.Common.{◌≡◌, ℕ, zero, suc, ◌+◌, ◌-◌, ◌==◌, ◌&&◌, ◌||◌, ◌<◌, ◌≤◌, ◌^◌, nat_lt, nat_le, not, ℤ, pos, negsuc, ◌≤ℤ◌, List, [], ◌∷◌, ◌++◌, length, drop, Bool, true, false, cond, Option, None, Some, decimal, refl, ap, sym, subst, ◌∙◌, inl, inr, ◌⊎◌, eq-eqb, slice_index, get_or, codes, unwrap_or, arith}
+use Rattle.std.proofs.Common.{◌≡◌, ℕ, zero, suc, ◌==◌, ◌&&◌, ◌<◌, ◌≤◌, ◌^◌, nat_lt, not, ℤ, pos, negsuc, List, [], ◌∷◌, ◌++◌, length, Bool, true, false, Option, None, Some, decimal, refl, ap, ◌∙◌, inl, inr, eq-eqb, slice_index, unwrap_or, arith}
 use Rattle.std.proofs.lemmas.Int.{ints}
-use Rattle.std.proofs.lemmas.Bool.{eqb-true, ne_eqb, lt-ltb, leb-true, le-leb}
+use Rattle.std.proofs.lemmas.Bool.{ne_eqb, lt-ltb, le-leb}
 use Rattle.std.proofs.lemmas.Fmt.{decimal_is_IsNumeral, decimal_digit, first_decimal}
 use Rattle.std.proofs.lemmas.Str.Parse.{digit_from_value}
 use Rattle.std.specs.Fmt.{signed_decimal}
-use Rattle.std.specs.Int.{IsInRange}
 use Rattle.std.specs.Char.{digit_value}
-use Rattle.std.specs.Str.Parse.{AllDigits, IsNumeral, digits_value}
+use Rattle.std.specs.Str.Parse.{AllDigits}
 use Rattle.std.specs.Option.{option_map, option_and_then}
-use Rattle.std.specs.List.{list_all, slice_split, onto_first}
+use Rattle.std.specs.List.{list_all, slice_split}
 use Rattle.asm_core.specs.Reg.{reg_name}
 use Rattle.asm_core.specs.Lists.{IsMember}
 use Rattle.asm_core.specs.Placement.{IsForm}
-use Rattle.asm_core.specs.Reading.Written.{register_named, is_numeral, numeral_value, magnitude_of, not_above, number_of}
+use Rattle.asm_core.specs.Reading.Written.{register_named, numeral_value, magnitude_of, not_above, number_of}
 use Rattle.asm_core.specs.Reading.Text.{base_in, index_in, form_with, form_read}
 use Rattle.asm_core.specs.Reading.Placed.{IsWordNumber}
-use Rattle.asm_core.specs.Expansion.{name_of, base_text, index_text, registers_text, disp_text, address_text, form_text}
+use Rattle.asm_core.specs.Expansion.{name_of, base_text, index_text, disp_text, address_text, form_text}
 use Rattle.asm_core.specs.declared.reg.Reg.{Reg}
 use Rattle.asm_core.specs.declared.reg.Reg.TheVariants.{Eax, Ebx, Ecx, Edx, Esi, Edi, Ebp}
 use Rattle.asm_core.specs.declared.reg.Slice.{Slice}
@@ -227,8 +226,12 @@ index_lacks c x other h =
 address_back : (d : ℤ) (registers : List ℕ) → IsWordNumber d → lacks 40 registers ≡ true → lacks 41 registers ≡ true → form_read (address_text d registers) ≡ form_with d (slice_split (λ x. x == 44) registers)
 unfolding form_read
 address_back d registers word no_open no_close =
-    rw (split_at 40 (disp_text d) (registers ++ 41 ∷ []) (disp_lacks 40 d (omega arith) word), split_none 40 (registers ++ 41 ∷ []) (lacks-append 40 registers (41 ∷ []) no_open refl),
-    split_at 41 registers [] no_close, disp_back d word) refl
+    rw (
+      split_at 40 (disp_text d) (registers ++ 41 ∷ []) (disp_lacks 40 d (omega arith) word),
+      split_none 40 (registers ++ 41 ∷ []) (lacks-append 40 registers (41 ∷ []) no_open refl),
+      split_at 41 registers [] no_close,
+      disp_back d word,
+    ) refl
 
 name_back : (r : Reg) → register_named (reg_name r) ≡ Some (r, All)
 name_back r = register_back r All (reg_name r) refl

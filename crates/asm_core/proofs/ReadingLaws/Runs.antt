@@ -1,6 +1,5 @@
 -- The runs of a text are its template's pieces, where these stand apart; and a text that exists names each of them.
-use Rattle.std.proofs.Common.{◌≡◌, ℕ, zero, suc, ◌+◌, ◌==◌, ◌&&◌, ◌<◌, nat_lt, not, List, [], ◌∷◌, ◌++◌, length, map, Bool, true, false, cond, Option, None, Some, Result, Ok, Err, decimal, refl, ap, sym, ◌∙◌, eq-eqb, slice_get}
-use Rattle.std.specs.List.{flat_map}
+use Rattle.std.proofs.Common.{◌≡◌, ℕ, suc, ◌&&◌, nat_lt, not, List, [], ◌∷◌, ◌++◌, map, Bool, true, false, cond, Option, None, Some, Result, Ok, Err, decimal, refl, ◌∙◌, eq-eqb}
 use Rattle.asm_core.specs.Pieces.{piece_code}
 use Rattle.asm_core.specs.Reading.Comments.{Place, place_behind, is_comment, outside_comments}
 use Rattle.asm_core.specs.Reading.Text.{Sign, Run, onto_runs, runs_of}

@@ -1,7 +1,7 @@
 -- Comments in a template and in the text that is made from it (GNU as, "Comments"). `#` begins one that ends before the newline.
 -- `/*` begins one that ends behind `*/`, where it is closed and stands at the beginning or behind a blank, a tab, a newline,
 -- `;`, `:` or `,` (this project's own rule). What a hole stands for begins and ends none.
-use Rattle.std.specs.Prelude.{ℕ, ◌==◌, ◌||◌, ◌&&◌, Bool, true, false, List, [], ◌∷◌, map, slice_index, if◌then◌else◌}
+use Rattle.std.specs.Prelude.{ℕ, ◌==◌, ◌||◌, ◌&&◌, Bool, true, false, List, [], ◌∷◌, map, if◌then◌else◌}
 
 -- where the next element stands
 pub data Place : Type 0 where

@@ -1,20 +1,18 @@
 -- The lines of a template under a shape.
-use Rattle.std.specs.Prelude.{ℕ, ◌+◌, ◌-◌, ◌*◌, ◌==◌, ◌||◌, ◌&&◌, nat_le, nat_lt, not, bit_or, ◌^◌, Bool, true, false, List, [], ◌∷◌, ◌++◌, length, map, take, drop, reverse, find, slice_index, slice_get, unwrap_or, Option, None, Some, Result, Ok, Err, if◌then◌else◌}
+use Rattle.std.specs.Prelude.{ℕ, ◌+◌, ◌-◌, ◌==◌, ◌||◌, ◌&&◌, nat_le, nat_lt, not, bit_or, ◌^◌, Bool, true, List, [], ◌∷◌, ◌++◌, length, map, take, drop, reverse, find, slice_index, unwrap_or, Option, None, Some, Result, Ok, Err, if◌then◌else◌}
 use Rattle.std.specs.Option.{option_map}
-use Rattle.std.specs.List.{prefix_len, filter_map}
+use Rattle.std.specs.List.{prefix_len}
 use Rattle.std.specs.Str.Parse.{digits_value}
 use Rattle.asm_core.specs.Reg.{reg_number}
 use Rattle.asm_core.specs.Pieces.{piece_code}
 use Rattle.asm_core.specs.Reading.Comments.{outside_comments}
 use Rattle.asm_core.specs.Reading.Comments as comments
-use Rattle.asm_core.specs.Reading.Cut.{is_blank, is_word, is_digit, begun, is_label, is_number_label, is_unique_label, same_name, Raw, raws_of, labels_from, instruction_count}
+use Rattle.asm_core.specs.Reading.Cut.{is_blank, is_word, is_number_label, is_unique_label, same_name, Raw, raws_of, labels_from, instruction_count}
 use Rattle.asm_core.specs.Reading.Written.{register_named}
 use Rattle.asm_core.specs.Reading.Operands.{atom_code, trimmed, operands_of, all_some}
-use Rattle.asm_core.specs.Reading.Chosen.{Class, class_of, Choice, choice_of, Prefixed, prefixes_fit}
+use Rattle.asm_core.specs.Reading.Chosen.{class_of, Choice, choice_of, Prefixed, prefixes_fit}
 use Rattle.asm_core.specs.Reading.Facts.{facts_of, atom_of}
 use Rattle.asm_core.specs.declared.reg.Reg.{Reg}
-use Rattle.asm_core.specs.declared.reg.Slice.{Slice}
-use Rattle.asm_core.specs.declared.reg.RegSet.{RegSet}
 use Rattle.asm_core.specs.declared.inst.Op.{Op}
 use Rattle.asm_core.specs.declared.inst.Width.{Width}
 use Rattle.asm_core.specs.declared.inst.Repeat.{Repeat}
@@ -24,7 +22,6 @@ use Rattle.asm_core.specs.declared.sym.Sym.{Sym}
 use Rattle.asm_core.specs.declared.piece.Piece.{Piece}
 use Rattle.asm_core.specs.declared.names.Prefix.{Prefix}
 use Rattle.asm_core.specs.declared.names.NameRow.{NameRow}
-use Rattle.asm_core.specs.declared.reading.Leaf.{Leaf}
 use Rattle.asm_core.specs.declared.reading.Atom.{Atom}
 use Rattle.asm_core.specs.declared.reading.LineOperand.{LineOperand}
 use Rattle.asm_core.specs.declared.interface.Interface.{Interface}

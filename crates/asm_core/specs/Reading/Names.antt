@@ -1,6 +1,6 @@
 -- The table of names: each spelling with the operands that it may have (Intel SDM volume 2, in AT&T syntax as GNU as reads
 -- it). Which instructions there are is this project's own choice. A condition stands behind `cmov`, `set` and `j`.
-use Rattle.std.specs.Prelude.{ℕ, ◌-◌, Bool, true, false, List, [], ◌∷◌, ◌++◌, length, replicate, codes, Option, None, Some}
+use Rattle.std.specs.Prelude.{ℕ, ◌-◌, true, false, List, [], ◌∷◌, ◌++◌, length, replicate, codes, Option, None, Some}
 use Rattle.asm_core.specs.declared.inst.Op.{Op}
 use Rattle.asm_core.specs.declared.inst.Op.TheVariants as ops
 use Rattle.asm_core.specs.declared.inst.Width.{Width}

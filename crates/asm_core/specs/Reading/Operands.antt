@@ -1,6 +1,6 @@
 -- The operands of an instruction in AT&T syntax (GNU as, "i386-Memory" and "i386-Syntax"). An element is a byte or a hole;
 -- a hole is a whole operand, a whole number, or a whole register.
-use Rattle.std.specs.Prelude.{ℕ, zero, suc, ◌+◌, ◌-◌, ◌*◌, ◌==◌, ◌||◌, ◌&&◌, nat_le, nat_lt, not, ℤ, pos, negsuc, Bool, true, false, List, [], ◌∷◌, length, map, take, drop, slice_index, Option, None, Some, if◌then◌else◌}
+use Rattle.std.specs.Prelude.{ℕ, zero, suc, ◌+◌, ◌==◌, ◌||◌, ◌&&◌, nat_lt, not, ℤ, pos, Bool, true, false, List, [], ◌∷◌, length, map, take, drop, slice_index, Option, None, Some, if◌then◌else◌}
 use Rattle.std.specs.Option.{option_map}
 use Rattle.std.specs.List.{prefix_len}
 use Rattle.asm_core.specs.Pieces.{piece_code}

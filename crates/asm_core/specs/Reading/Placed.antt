@@ -1,11 +1,8 @@
 -- The lines of a template with each operand replaced by what a placement puts there.
-use Rattle.std.specs.Prelude.{◌≡◌, ℕ, ◌^◌, ◌<◌, ◌≤◌, ℤ, pos, negsuc, ◌≤ℤ◌, ◌==◌, ◌&&◌, nat_lt, not, Bool, true, false, IsTrue, List, [], ◌∷◌, map, Option, None, Some, Result, Ok, Err, slice_get, slice_index}
+use Rattle.std.specs.Prelude.{◌≡◌, ℕ, ◌^◌, ◌<◌, ℤ, pos, negsuc, ◌≤ℤ◌, ◌&&◌, nat_lt, not, Bool, true, List, [], ◌∷◌, map, Option, None, Some, Ok, slice_get}
 use Rattle.std.specs.Option.{option_map}
 use Rattle.asm_core.specs.Placement.{spot_of, IsForm, IsAllowed}
 use Rattle.asm_core.specs.Expansion.{expansion_of}
-use Rattle.asm_core.specs.Pieces.{piece_code}
-use Rattle.asm_core.specs.Reading.Comments.{outside_comments}
-use Rattle.asm_core.specs.Reading.Comments as comments
 use Rattle.asm_core.specs.Reading.Text.{Sign, TextCode, code_of_text, register_arg, number_arg, memory_arg, address_arg}
 use Rattle.asm_core.specs.declared.reg.Reg.{Reg}
 use Rattle.asm_core.specs.declared.sym.Place.{Place}

@@ -2,9 +2,9 @@
 -- one operand gave is one element, and means what its bytes say: a register's name, a number, an address, by the kind of the
 -- operand. Only the number of a memory operand, and whether `%cl` may be a count, look at the operand itself. The number
 -- that `%=` gave is one element whatever its digits are.
-use Rattle.std.specs.Prelude.{ℕ, zero, suc, ◌+◌, ◌-◌, ◌==◌, ◌&&◌, max, ℤ, pos, Bool, true, false, List, [], ◌∷◌, ◌++◌, length, map, drop, slice_index, slice_get, unwrap_or, Option, None, Some, if◌then◌else◌}
+use Rattle.std.specs.Prelude.{ℕ, zero, suc, ◌==◌, ◌&&◌, max, ℤ, pos, true, List, [], ◌∷◌, length, map, drop, slice_index, slice_get, unwrap_or, Option, None, Some, if◌then◌else◌}
 use Rattle.std.specs.Option.{option_map}
-use Rattle.std.specs.List.{prefix_len, slice_split}
+use Rattle.std.specs.List.{slice_split}
 use Rattle.asm_core.specs.Reading.Comments.{outside_comments}
 use Rattle.asm_core.specs.Reading.Comments as comments
 use Rattle.asm_core.specs.Reading.Cut.{Raw, raws_of, instruction_count}
@@ -16,7 +16,6 @@ use Rattle.asm_core.specs.declared.reg.Reg.{Reg}
 use Rattle.asm_core.specs.declared.reg.Slice.{Slice}
 use Rattle.asm_core.specs.declared.sym.Place.{Place}
 use Rattle.asm_core.specs.declared.sym.Disp.{Disp}
-use Rattle.asm_core.specs.declared.sym.Sym.{Sym}
 use Rattle.asm_core.specs.declared.piece.Modifier.{Modifier}
 use Rattle.asm_core.specs.declared.piece.Piece.{Piece}
 use Rattle.asm_core.specs.declared.names.NameRow.{NameRow}

@@ -1,5 +1,5 @@
 -- Registers and numbers as they are written (Intel SDM volume 1, "General-Purpose Registers"; GNU as, "Integers").
-use Rattle.std.specs.Prelude.{ℕ, zero, suc, ◌+◌, ◌-◌, ◌==◌, ◌^◌, ◌&&◌, nat_le, nat_lt, ℤ, pos, negsuc, Bool, List, [], ◌∷◌, length, drop, slice_index, Option, None, Some, codes, if◌then◌else◌}
+use Rattle.std.specs.Prelude.{ℕ, zero, suc, ◌-◌, ◌==◌, ◌^◌, ◌&&◌, nat_le, nat_lt, ℤ, pos, negsuc, Bool, List, [], ◌∷◌, length, drop, slice_index, Option, None, Some, codes, if◌then◌else◌}
 use Rattle.std.specs.List.{list_all}
 use Rattle.std.specs.Char.{digit_value}
 use Rattle.std.specs.Str.Parse.{digits_value}
