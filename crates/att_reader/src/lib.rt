@@ -1,13 +1,8 @@
-// A library with one function.
+//! Reads the lines of a template in AT&T syntax, as GNU as reads them.
 #![tactic(auto)]
 
-ghost use Rattle.std.specs.Prelude.{◌≡◌};
-ghost use Rattle.att_reader.specs.Echo.{echo_of};
+mod implicit;
+mod placed_line;
 
-// The `ensures` clause is the contract: what `echo` returns is `echo_of` of its argument, a definition
-// in `specs/Echo.antt`, which a caller's clause can cite too.
-pub fn echo(x: usize) -> usize
-    ensures { result ≡ echo_of x }
-{
-    x
-}
+pub use implicit::unasked;
+pub use placed_line::instantiate;
