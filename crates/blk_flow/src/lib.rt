@@ -1,13 +1,8 @@
-// A library with one function.
+//! Which instructions may follow one another.
 #![tactic(auto)]
 
-ghost use Rattle.std.specs.Prelude.{◌≡◌};
-ghost use Rattle.blk_flow.specs.Echo.{echo_of};
+mod flow;
+mod flow_end;
 
-// The `ensures` clause is the contract: what `echo` returns is `echo_of` of its argument, a definition
-// in `specs/Echo.antt`, which a caller's clause can cite too.
-pub fn echo(x: usize) -> usize
-    ensures { result ≡ echo_of x }
-{
-    x
-}
+pub use flow::{graph, successors};
+pub use flow_end::FlowEnd;
