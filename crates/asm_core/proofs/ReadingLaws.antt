@@ -1,4 +1,5 @@
 -- Reading a template with holes and then placing is reading its text.
+pub mod CommentsAlike
 pub mod CommentsLeft
 pub mod CutKept
 pub mod Law

@@ -2,6 +2,7 @@
 -- `/*` begins one that ends behind `*/`, where it is closed and stands at the beginning or behind a blank, a tab, a newline,
 -- `;`, `:` or `,` (this project's own rule). What a hole stands for begins and ends none.
 use Rattle.std.specs.Prelude.{ℕ, ◌==◌, ◌||◌, ◌&&◌, Bool, true, false, List, [], ◌∷◌, map, if◌then◌else◌}
+use Rattle.asm_core.specs.Comments.{is_one_of, comment_breaks}
 
 -- where the next element stands
 pub data Place : Type 0 where
@@ -13,10 +14,6 @@ pub data Place : Type 0 where
   Opened : Place
   -- in a comment that ends behind `*/`; whether a `*` of it stands before
   Block : (star : Bool) → Place
-
--- what `/*` may stand behind
-abbrev pub may_begin_behind : ℕ → Bool
-may_begin_behind c = (c == 32) || (c == 9) || (c == 10) || (c == 59) || (c == 58) || (c == 44)
 
 -- some `*/` stands there; its `*` may be the one before
 abbrev pub is_closed : Bool → List ℕ → Bool
@@ -30,7 +27,7 @@ opens_block (c ∷ cs) = (c == 42) && is_closed false cs
 
 -- where the element behind one of code c stands, given the codes behind c
 abbrev pub place_behind : Place → ℕ → List ℕ → Place
-place_behind (Outside begins) c cs = if c == 35 then Rest else if begins && ((c == 47) && opens_block cs) then Opened else Outside (may_begin_behind c)
+place_behind (Outside begins) c cs = if c == 35 then Rest else if begins && ((c == 47) && opens_block cs) then Opened else Outside (is_one_of comment_breaks c)
 place_behind Rest c cs = if c == 10 then Outside true else Rest
 place_behind Opened c cs = Block false
 place_behind (Block star) c cs = if star && (c == 47) then Outside false else Block (c == 42)
