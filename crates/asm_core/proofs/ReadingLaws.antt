@@ -1,4 +1,5 @@
 -- Reading a template with holes and then placing is reading its text.
+pub mod CommentPlaces
 pub mod CommentsAlike
 pub mod CommentsLeft
 pub mod CutKept
@@ -6,5 +7,6 @@ pub mod Law
 pub mod LinesPlaced
 pub mod OperandsPlaced
 pub mod OperandsBack
+pub mod PiecesApart
 pub mod ReadBack
 pub mod Runs

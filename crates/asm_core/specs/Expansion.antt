@@ -4,9 +4,8 @@ use Rattle.std.specs.Option.{option_map, option_and_then}
 use Rattle.std.specs.Fmt.{signed_decimal}
 use Rattle.asm_core.specs.Reg.{reg_name}
 use Rattle.asm_core.specs.Placement.{spot_of}
+use Rattle.asm_core.specs.Comments.{comments_of}
 use Rattle.asm_core.specs.Pieces.{piece_code}
-use Rattle.asm_core.specs.Reading.Comments.{is_comment, place_behind}
-use Rattle.asm_core.specs.Reading.Comments as comments
 use Rattle.asm_core.specs.Reading.Facts.{slice_of}
 use Rattle.asm_core.specs.Reading.Text.{Sign}
 use Rattle.asm_core.specs.declared.reg.Reg.{Reg}
@@ -130,14 +129,13 @@ onto_text (Err k) rest = Err k
 onto_text (Ok text) (Err k) = Err k
 onto_text (Ok text) (Ok rest) = Ok (text ++ rest)
 
--- the text of pieces, given where in or outside comments they begin
-unfoldable pub expansion_from : Interface → Placement → ℕ → comments.Place → List Piece → Result (List Sign) ℕ
-expansion_from i p unique place [] = Ok []
-expansion_from i p unique place (x ∷ xs) =
-    let cs = map piece_code xs in
-    onto_text (piece_text i p unique (is_comment place (piece_code x) cs) x) (expansion_from i p unique (place_behind place (piece_code x) cs) xs)
+-- the text of pieces, each with whether it stands in a comment
+unfoldable pub expansion_with : Interface → Placement → ℕ → List Piece → List Bool → Result (List Sign) ℕ
+expansion_with i p unique [] marks = Ok []
+expansion_with i p unique (x ∷ xs) [] = Ok []
+expansion_with i p unique (x ∷ xs) (inside ∷ marks) = onto_text (piece_text i p unique inside x) (expansion_with i p unique xs marks)
 
 -- The template's text under a placement, `unique` being the number that `%=` gives, or the first operand outside comments
 -- that has no name there.
 abbrev pub expansion_of : Interface → Placement → ℕ → List Piece → Result (List Sign) ℕ
-expansion_of i p unique ps = expansion_from i p unique (comments.Outside true) ps
+expansion_of i p unique ps = expansion_with i p unique ps (comments_of (map piece_code ps))

@@ -1,6 +1,5 @@
 -- The instructions of a template under a placement.
 pub mod Chosen
-pub mod Comments
 pub mod Cut
 pub mod Facts
 pub mod Line

@@ -6,7 +6,7 @@ use Rattle.asm_core.specs.Interface.{any_register}
 use Rattle.asm_core.specs.Expansion.{printed}
 use Rattle.asm_core.specs.Reading.Names.{names}
 use Rattle.asm_core.specs.Reading.Chosen.{choice_of}
-use Rattle.asm_core.specs.Reading.Comments.{outside_comments}
+use Rattle.asm_core.specs.Comments.{kept, comments_from, comment_until, comment_end, line_end, block_end}
 use Rattle.asm_core.specs.Reading.Cut.{raws_of, raws_from, items_from, item_at, begun}
 use Rattle.asm_core.specs.Reading.Written.{number_of, magnitude_of}
 use Rattle.asm_core.specs.Reading.Operands.{operand_of, operands_of, operands_in, written_operand, disp_in, place_in, scale_in, base_in, index_in, between, enclosed, front_disp, address_at, address_of, ended, trimmed}
@@ -153,107 +153,107 @@ left_out ps = left_out_in (lines_under names four four_kinds ps)
 
 -- `movl %1,%0`
 moves_operands : line (bytes (codes "movl ") ++ (hole 1 ++ (bytes (codes ",") ++ hole 0))) ≡ sym Op.Mov L (y ∷ x ∷ []) ∷ []
-unfolding outside_comments begun item_at items_from raws_from raws_of number_of magnitude_of ended trimmed disp_in place_in scale_in base_in index_in between enclosed front_disp address_at address_of written_operand operand_of operands_in operands_of choice_of goal_of line_at line_of readings_from readings_of facts_of template_raws
+unfolding kept comments_from comment_until comment_end line_end block_end begun item_at items_from raws_from raws_of number_of magnitude_of ended trimmed disp_in place_in scale_in base_in index_in between enclosed front_disp address_at address_of written_operand operand_of operands_in operands_of choice_of goal_of line_at line_of readings_from readings_of facts_of template_raws
 moves_operands = refl
 
 -- without a suffix the registers give the size
 sizes_by_registers : line (bytes (codes "mov %al, %bl")) ≡ sym Op.Mov B (Arg.Register (Place.Reg Reg.Eax) Slice.Low8 ∷ Arg.Register (Place.Reg Reg.Ebx) Slice.Low8 ∷ []) ∷ []
-unfolding outside_comments begun item_at items_from raws_from raws_of number_of magnitude_of ended trimmed disp_in place_in scale_in base_in index_in between enclosed front_disp address_at address_of written_operand operand_of operands_in operands_of choice_of goal_of line_at line_of readings_from readings_of facts_of template_raws
+unfolding kept comments_from comment_until comment_end line_end block_end begun item_at items_from raws_from raws_of number_of magnitude_of ended trimmed disp_in place_in scale_in base_in index_in between enclosed front_disp address_at address_of written_operand operand_of operands_in operands_of choice_of goal_of line_at line_of readings_from readings_of facts_of template_raws
 sizes_by_registers = refl
 
 -- registers of two sizes
 two_sizes : line (bytes (codes "mov %al,%ebx")) ≡ None ∷ []
-unfolding outside_comments begun item_at items_from raws_from raws_of number_of magnitude_of ended trimmed disp_in place_in scale_in base_in index_in between enclosed front_disp address_at address_of written_operand operand_of operands_in operands_of choice_of goal_of line_at line_of readings_from readings_of facts_of template_raws
+unfolding kept comments_from comment_until comment_end line_end block_end begun item_at items_from raws_from raws_of number_of magnitude_of ended trimmed disp_in place_in scale_in base_in index_in between enclosed front_disp address_at address_of written_operand operand_of operands_in operands_of choice_of goal_of line_at line_of readings_from readings_of facts_of template_raws
 two_sizes = refl
 
 -- no size
 wants_a_size : line (bytes (codes "mov $5,(%eax)")) ≡ None ∷ []
-unfolding outside_comments begun item_at items_from raws_from raws_of number_of magnitude_of ended trimmed disp_in place_in scale_in base_in index_in between enclosed front_disp address_at address_of written_operand operand_of operands_in operands_of choice_of goal_of line_at line_of readings_from readings_of facts_of template_raws
+unfolding kept comments_from comment_until comment_end line_end block_end begun item_at items_from raws_from raws_of number_of magnitude_of ended trimmed disp_in place_in scale_in base_in index_in between enclosed front_disp address_at address_of written_operand operand_of operands_in operands_of choice_of goal_of line_at line_of readings_from readings_of facts_of template_raws
 wants_a_size = refl
 
 -- an address
 in_memory : line (bytes (codes "movw $-2 , -4( %eax , %ebx , 8 )")) ≡ sym Op.Mov W (Arg.Number (negsuc 1) ∷ Arg.Address (Disp.Number (negsuc 3)) (Some (Place.Reg Reg.Eax)) (Some (Place.Reg Reg.Ebx, 8)) ∷ []) ∷ []
-unfolding outside_comments begun item_at items_from raws_from raws_of number_of magnitude_of ended trimmed disp_in place_in scale_in base_in index_in between enclosed front_disp address_at address_of written_operand operand_of operands_in operands_of choice_of goal_of line_at line_of readings_from readings_of facts_of template_raws
+unfolding kept comments_from comment_until comment_end line_end block_end begun item_at items_from raws_from raws_of number_of magnitude_of ended trimmed disp_in place_in scale_in base_in index_in between enclosed front_disp address_at address_of written_operand operand_of operands_in operands_of choice_of goal_of line_at line_of readings_from readings_of facts_of template_raws
 in_memory = refl
 
 -- holes in an address; a hole `%c` that isn't known is no scale
 address_of_holes : line (bytes (codes "leal 4(,") ++ (hole 1 ++ (bytes (codes ",2),") ++ (hole 0 ++ (bytes (codes ";leal (") ++ (hole 1 ++ (bytes (codes ",%eax,") ++ (Piece.Hole 3 Modifier.C 7 ∷ bytes (codes "),%eax"))))))))) ≡ sym Op.Lea L (Arg.Address (Disp.Number (pos 4)) None (Some (Place.Operand 1, 2)) ∷ x ∷ []) ∷ None ∷ []
-unfolding outside_comments begun item_at items_from raws_from raws_of number_of magnitude_of ended trimmed disp_in place_in scale_in base_in index_in between enclosed front_disp address_at address_of written_operand operand_of operands_in operands_of choice_of goal_of line_at line_of readings_from readings_of facts_of template_raws
+unfolding kept comments_from comment_until comment_end line_end block_end begun item_at items_from raws_from raws_of number_of magnitude_of ended trimmed disp_in place_in scale_in base_in index_in between enclosed front_disp address_at address_of written_operand operand_of operands_in operands_of choice_of goal_of line_at line_of readings_from readings_of facts_of template_raws
 address_of_holes = refl
 
 -- a memory operand and a number
 memory_hole : line (bytes (codes "addl ") ++ (hole 3 ++ (bytes (codes ",") ++ hole 2))) ≡ sym Op.Add L (Arg.Hole 3 ∷ Arg.Memory 2 ∷ []) ∷ []
-unfolding outside_comments begun item_at items_from raws_from raws_of number_of magnitude_of ended trimmed disp_in place_in scale_in base_in index_in between enclosed front_disp address_at address_of written_operand operand_of operands_in operands_of choice_of goal_of line_at line_of readings_from readings_of facts_of template_raws
+unfolding kept comments_from comment_until comment_end line_end block_end begun item_at items_from raws_from raws_of number_of magnitude_of ended trimmed disp_in place_in scale_in base_in index_in between enclosed front_disp address_at address_of written_operand operand_of operands_in operands_of choice_of goal_of line_at line_of readings_from readings_of facts_of template_raws
 memory_hole = refl
 
 -- two of them
 two_memories : line (bytes (codes "addl ") ++ (hole 2 ++ (bytes (codes ",") ++ hole 2))) ≡ None ∷ []
-unfolding outside_comments begun item_at items_from raws_from raws_of number_of magnitude_of ended trimmed disp_in place_in scale_in base_in index_in between enclosed front_disp address_at address_of written_operand operand_of operands_in operands_of choice_of goal_of line_at line_of readings_from readings_of facts_of template_raws
+unfolding kept comments_from comment_until comment_end line_end block_end begun item_at items_from raws_from raws_of number_of magnitude_of ended trimmed disp_in place_in scale_in base_in index_in between enclosed front_disp address_at address_of written_operand operand_of operands_in operands_of choice_of goal_of line_at line_of readings_from readings_of facts_of template_raws
 two_memories = refl
 
 -- a count in `%cl`, and a register that may lie in ecx
 count : line (bytes (codes "shl %cl,") ++ (hole 0)) ≡ sym Op.Shl L (Arg.Register (Place.Reg Reg.Ecx) Slice.Low8 ∷ x ∷ []) ∷ []
-unfolding outside_comments begun item_at items_from raws_from raws_of number_of magnitude_of ended trimmed disp_in place_in scale_in base_in index_in between enclosed front_disp address_at address_of written_operand operand_of operands_in operands_of choice_of goal_of line_at line_of readings_from readings_of facts_of template_raws
+unfolding kept comments_from comment_until comment_end line_end block_end begun item_at items_from raws_from raws_of number_of magnitude_of ended trimmed disp_in place_in scale_in base_in index_in between enclosed front_disp address_at address_of written_operand operand_of operands_in operands_of choice_of goal_of line_at line_of readings_from readings_of facts_of template_raws
 count = refl
 
 no_count : line (bytes (codes "shl ") ++ (Piece.Hole 1 Modifier.B 7 ∷ bytes (codes ",%eax"))) ≡ None ∷ []
-unfolding outside_comments begun item_at items_from raws_from raws_of number_of magnitude_of ended trimmed disp_in place_in scale_in base_in index_in between enclosed front_disp address_at address_of written_operand operand_of operands_in operands_of choice_of goal_of line_at line_of readings_from readings_of facts_of template_raws
+unfolding kept comments_from comment_until comment_end line_end block_end begun item_at items_from raws_from raws_of number_of magnitude_of ended trimmed disp_in place_in scale_in base_in index_in between enclosed front_disp address_at address_of written_operand operand_of operands_in operands_of choice_of goal_of line_at line_of readings_from readings_of facts_of template_raws
 no_count = refl
 
 -- a condition, and a suffix behind one
 condition : line (bytes (codes "setnz %al;cmovlel (%eax),%ebx")) ≡ sym (Op.Set Cond.Ne) B (Arg.Register (Place.Reg Reg.Eax) Slice.Low8 ∷ []) ∷ sym (Op.Cmov Cond.Le) L (Arg.Address (Disp.Number (pos 0)) (Some (Place.Reg Reg.Eax)) None ∷ whole (Place.Reg Reg.Ebx) ∷ []) ∷ []
-unfolding outside_comments begun item_at items_from raws_from raws_of number_of magnitude_of ended trimmed disp_in place_in scale_in base_in index_in between enclosed front_disp address_at address_of written_operand operand_of operands_in operands_of choice_of goal_of line_at line_of readings_from readings_of facts_of template_raws
+unfolding kept comments_from comment_until comment_end line_end block_end begun item_at items_from raws_from raws_of number_of magnitude_of ended trimmed disp_in place_in scale_in base_in index_in between enclosed front_disp address_at address_of written_operand operand_of operands_in operands_of choice_of goal_of line_at line_of readings_from readings_of facts_of template_raws
 condition = refl
 
 -- `lock` in its own statement
 locked : line (bytes (codes "lock; incl ") ++ hole 2) ≡ Some (record { op = Op.Inc; width = L; args = Arg.Memory 2 ∷ []; repeat = Repeat.No; lock = true; place = 7 }) ∷ []
-unfolding outside_comments begun item_at items_from raws_from raws_of number_of magnitude_of ended trimmed disp_in place_in scale_in base_in index_in between enclosed front_disp address_at address_of written_operand operand_of operands_in operands_of choice_of goal_of line_at line_of readings_from readings_of facts_of template_raws
+unfolding kept comments_from comment_until comment_end line_end block_end begun item_at items_from raws_from raws_of number_of magnitude_of ended trimmed disp_in place_in scale_in base_in index_in between enclosed front_disp address_at address_of written_operand operand_of operands_in operands_of choice_of goal_of line_at line_of readings_from readings_of facts_of template_raws
 locked = refl
 
 -- `lock` without memory, and without an instruction
 locked_register : line (bytes (codes "lock incl %eax;lock")) ≡ None ∷ None ∷ []
-unfolding outside_comments begun item_at items_from raws_from raws_of number_of magnitude_of ended trimmed disp_in place_in scale_in base_in index_in between enclosed front_disp address_at address_of written_operand operand_of operands_in operands_of choice_of goal_of line_at line_of readings_from readings_of facts_of template_raws
+unfolding kept comments_from comment_until comment_end line_end block_end begun item_at items_from raws_from raws_of number_of magnitude_of ended trimmed disp_in place_in scale_in base_in index_in between enclosed front_disp address_at address_of written_operand operand_of operands_in operands_of choice_of goal_of line_at line_of readings_from readings_of facts_of template_raws
 locked_register = refl
 
 -- `rep`, and `rep nop`
 repeated : line (bytes (codes "rep movsb;rep;nop;repe scasl")) ≡ Some (record { op = Op.Movs; width = B; args = []; repeat = Repeat.Rep; lock = false; place = 7 }) ∷ sym Op.Nop L [] ∷ Some (record { op = Op.Scas; width = L; args = []; repeat = Repeat.Repe; lock = false; place = 7 }) ∷ []
-unfolding outside_comments begun item_at items_from raws_from raws_of number_of magnitude_of ended trimmed disp_in place_in scale_in base_in index_in between enclosed front_disp address_at address_of written_operand operand_of operands_in operands_of choice_of goal_of line_at line_of readings_from readings_of facts_of template_raws
+unfolding kept comments_from comment_until comment_end line_end block_end begun item_at items_from raws_from raws_of number_of magnitude_of ended trimmed disp_in place_in scale_in base_in index_in between enclosed front_disp address_at address_of written_operand operand_of operands_in operands_of choice_of goal_of line_at line_of readings_from readings_of facts_of template_raws
 repeated = refl
 
 -- the nearest label before and behind
 backwards : line (bytes (codes "1:1: jmp 1b;jne 1f;1:")) ≡ sym Op.Jmp L (Arg.Label 0 ∷ []) ∷ sym (Op.J Cond.Ne) L (Arg.Label 2 ∷ []) ∷ []
-unfolding outside_comments begun item_at items_from raws_from raws_of number_of magnitude_of ended trimmed disp_in place_in scale_in base_in index_in between enclosed front_disp address_at address_of written_operand operand_of operands_in operands_of choice_of goal_of line_at line_of readings_from readings_of facts_of template_raws
+unfolding kept comments_from comment_until comment_end line_end block_end begun item_at items_from raws_from raws_of number_of magnitude_of ended trimmed disp_in place_in scale_in base_in index_in between enclosed front_disp address_at address_of written_operand operand_of operands_in operands_of choice_of goal_of line_at line_of readings_from readings_of facts_of template_raws
 backwards = refl
 
 -- `2f` is the nearest label 2 behind the jump, not the last
 the_nearest : line (bytes (codes "jmp 2f;2: nop;2: nop")) ≡ sym Op.Jmp L (Arg.Label 1 ∷ []) ∷ sym Op.Nop L [] ∷ sym Op.Nop L [] ∷ []
-unfolding outside_comments begun item_at items_from raws_from raws_of number_of magnitude_of ended trimmed disp_in place_in scale_in base_in index_in between enclosed front_disp address_at address_of written_operand operand_of operands_in operands_of choice_of goal_of line_at line_of readings_from readings_of facts_of template_raws
+unfolding kept comments_from comment_until comment_end line_end block_end begun item_at items_from raws_from raws_of number_of magnitude_of ended trimmed disp_in place_in scale_in base_in index_in between enclosed front_disp address_at address_of written_operand operand_of operands_in operands_of choice_of goal_of line_at line_of readings_from readings_of facts_of template_raws
 the_nearest = refl
 
 -- no such label
 no_label : line (bytes (codes "jmp 2f;2f")) ≡ sym Op.Jmp L (Arg.Label 2 ∷ []) ∷ None ∷ []
-unfolding outside_comments begun item_at items_from raws_from raws_of number_of magnitude_of ended trimmed disp_in place_in scale_in base_in index_in between enclosed front_disp address_at address_of written_operand operand_of operands_in operands_of choice_of goal_of line_at line_of readings_from readings_of facts_of template_raws
+unfolding kept comments_from comment_until comment_end line_end block_end begun item_at items_from raws_from raws_of number_of magnitude_of ended trimmed disp_in place_in scale_in base_in index_in between enclosed front_disp address_at address_of written_operand operand_of operands_in operands_of choice_of goal_of line_at line_of readings_from readings_of facts_of template_raws
 no_label = refl
 
 no_target : targets (bytes (codes "jmp 2f;jmp 02f;2:")) ≡ record { inst = 0; goal = Some 2 } ∷ []
-unfolding outside_comments begun item_at items_from raws_from raws_of number_of magnitude_of ended trimmed disp_in place_in scale_in base_in index_in between enclosed front_disp address_at address_of written_operand operand_of operands_in operands_of choice_of goal_of line_at line_of readings_from readings_of facts_of template_raws
+unfolding kept comments_from comment_until comment_end line_end block_end begun item_at items_from raws_from raws_of number_of magnitude_of ended trimmed disp_in place_in scale_in base_in index_in between enclosed front_disp address_at address_of written_operand operand_of operands_in operands_of choice_of goal_of line_at line_of readings_from readings_of facts_of template_raws
 no_target = refl
 
 -- a label with `%=`, and the second of two
 unique_labels : line (bytes (codes ".La") ++ (unique ++ (bytes (codes ": jmp .La") ++ (unique ++ (bytes (codes ";.La") ++ (unique ++ bytes (codes ":"))))))) ≡ sym Op.Jmp L (Arg.Label 0 ∷ []) ∷ None ∷ []
-unfolding outside_comments begun item_at items_from raws_from raws_of number_of magnitude_of ended trimmed disp_in place_in scale_in base_in index_in between enclosed front_disp address_at address_of written_operand operand_of operands_in operands_of choice_of goal_of line_at line_of readings_from readings_of facts_of template_raws
+unfolding kept comments_from comment_until comment_end line_end block_end begun item_at items_from raws_from raws_of number_of magnitude_of ended trimmed disp_in place_in scale_in base_in index_in between enclosed front_disp address_at address_of written_operand operand_of operands_in operands_of choice_of goal_of line_at line_of readings_from readings_of facts_of template_raws
 unique_labels = refl
 
 -- comments of both kinds
 comments_aside : line (bytes (codes "nop # ;nop") ++ (Piece.Byte 10 7 ∷ bytes (codes "/* nop; */ nop ;/nop"))) ≡ sym Op.Nop L [] ∷ sym Op.Nop L [] ∷ None ∷ []
-unfolding outside_comments begun item_at items_from raws_from raws_of number_of magnitude_of ended trimmed disp_in place_in scale_in base_in index_in between enclosed front_disp address_at address_of written_operand operand_of operands_in operands_of choice_of goal_of line_at line_of readings_from readings_of facts_of template_raws
+unfolding kept comments_from comment_until comment_end line_end block_end begun item_at items_from raws_from raws_of number_of magnitude_of ended trimmed disp_in place_in scale_in base_in index_in between enclosed front_disp address_at address_of written_operand operand_of operands_in operands_of choice_of goal_of line_at line_of readings_from readings_of facts_of template_raws
 comments_aside = refl
 
 -- a bit test of memory by a register is left out
 bit_of_memory : left_out (bytes (codes "nop;lock btsl %eax,") ++ hole 2) ≡ 1 ∷ []
-unfolding outside_comments begun item_at items_from raws_from raws_of number_of magnitude_of ended trimmed disp_in place_in scale_in base_in index_in between enclosed front_disp address_at address_of written_operand operand_of operands_in operands_of choice_of goal_of line_at line_of readings_from readings_of facts_of template_raws
+unfolding kept comments_from comment_until comment_end line_end block_end begun item_at items_from raws_from raws_of number_of magnitude_of ended trimmed disp_in place_in scale_in base_in index_in between enclosed front_disp address_at address_of written_operand operand_of operands_in operands_of choice_of goal_of line_at line_of readings_from readings_of facts_of template_raws
 bit_of_memory = refl
 
 bit_by_number : left_out (bytes (codes "lock btsl $3,") ++ hole 2) ≡ []
-unfolding outside_comments begun item_at items_from raws_from raws_of number_of magnitude_of ended trimmed disp_in place_in scale_in base_in index_in between enclosed front_disp address_at address_of written_operand operand_of operands_in operands_of choice_of goal_of line_at line_of readings_from readings_of facts_of template_raws
+unfolding kept comments_from comment_until comment_end line_end block_end begun item_at items_from raws_from raws_of number_of magnitude_of ended trimmed disp_in place_in scale_in base_in index_in between enclosed front_disp address_at address_of written_operand operand_of operands_in operands_of choice_of goal_of line_at line_of readings_from readings_of facts_of template_raws
 bit_by_number = refl

@@ -3,9 +3,15 @@
 use Rattle.std.proofs.Common.{◌≡◌, ℕ, zero, suc, ◌+◌, ◌-◌, ◌==◌, ◌&&◌, ◌||◌, ◌<◌, ◌≤◌, nat_lt, not, List, [], ◌∷◌, length, map, drop, get_or, Bool, true, false, cond, Option, None, Some, is_some, unwrap_or, refl, ap, sym, subst, ◌∙◌, slice_index, eq-eqb, arith}
 use Rattle.std.proofs.lemmas.List.{get_or-drop, drop-drop}
 use Rattle.std.proofs.lemmas.Bool.{eqb-true, ne_eqb, lt-ltb, le-ltb}
+use Rattle.std.proofs.Math.Bool.{and-true}
+use Rattle.asm_core.specs.Pieces.{piece_code}
+use Rattle.asm_core.specs.Expansion.{piece_text, expansion_with, expansion_of}
+use Rattle.asm_core.specs.declared.piece.Piece.{Piece}
+use Rattle.asm_core.specs.declared.placement.Placement.{Placement}
+use Rattle.asm_core.specs.declared.interface.Interface.{Interface}
 use Rattle.asm_core.specs.Comments.{is_one_of, comment_breaks, line_end, block_end, comment_end, comment_until, comments_from, kept, uncommented}
 use Rattle.asm_core.specs.Comments as by_ends
-use Rattle.asm_core.specs.Reading.Comments.{Place, is_closed, opens_block, place_behind, is_inside, is_comment, outside_comments}
+use Rattle.asm_core.proofs.ReadingLaws.CommentPlaces.{expansion_from, Place, is_closed, opens_block, place_behind, is_inside, is_comment, outside_comments}
 
 -- an end stands behind its beginning
 line_end-le : (i : ℕ) (cs : List ℕ) → i ≤ line_end i cs
@@ -237,3 +243,23 @@ module _ {X : Type 0} (code : X → ℕ) (cs : List ℕ) where
 -- both ways leave the same
 pub uncommented-alike : {X : Type 0} (code : X → ℕ) (xs : List X) → uncommented code xs ≡ outside_comments code (Place.Outside true) xs
 uncommented-alike code xs = kept-alike code (map code xs) 0 0 (Place.Outside true) xs refl (omega arith, refl)
+
+module _ (i : Interface) (p : Placement) (unique : ℕ) (cs : List ℕ) where
+  -- whether a piece stands in a comment tells only an operand's text
+  same_piece : (x : Piece) (mark inside : Bool) → (mark && is_other (piece_code x)) ≡ inside → piece_text i p unique mark x ≡ piece_text i p unique inside x
+  same_piece (Piece.Byte b at) mark inside e = refl
+  same_piece (Piece.Unique at) mark inside e = refl
+  same_piece (Piece.Hole k m at) mark inside e = ap (λ b. piece_text i p unique b (Piece.Hole k m at)) (sym (and-true mark) ∙ e)
+
+  expansion-alike : (until n : ℕ) (place : Place) (ps : List Piece) → drop n cs ≡ map piece_code ps → Rel cs until n (map piece_code ps) place
+      → expansion_with i p unique ps (comments_from cs until n (map piece_code ps)) ≡ expansion_from i p unique place ps
+  unfolding comments_from expansion_with expansion_from
+  expansion-alike until n place [] stands h = refl
+  expansion-alike until n place (x ∷ ps) stands h =
+      let s = step cs until n (piece_code x) (map piece_code ps) stands place h in
+      rw (same_piece x (nat_lt n (comment_until cs until n)) (is_comment place (piece_code x) (map piece_code ps)) s.mark,
+      expansion-alike (comment_until cs until n) (n + 1) (place_behind place (piece_code x) (map piece_code ps)) ps (behind_code cs until n (piece_code x) (map piece_code ps) stands) s.next) refl
+
+-- both ways give one text
+pub expansion_of-alike : (i : Interface) (p : Placement) (unique : ℕ) (ps : List Piece) → expansion_of i p unique ps ≡ expansion_from i p unique (Place.Outside true) ps
+expansion_of-alike i p unique ps = expansion-alike i p unique (map piece_code ps) 0 0 (Place.Outside true) ps refl (omega arith, refl)

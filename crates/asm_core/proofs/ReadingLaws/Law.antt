@@ -1,15 +1,18 @@
 -- Reading a template with holes and then placing is reading its text.
-use Rattle.std.proofs.Common.{◌≡◌, ℕ, suc, ◌<◌, ◌≤◌, ◌^◌, nat_lt, ℤ, pos, negsuc, List, [], ◌∷◌, ◌++◌, map, Bool, true, false, cond, Option, None, Some, Ok, Err, decimal, refl, ap, subst, ◌∙◌, slice_get, arith}
+use Rattle.std.proofs.Common.{◌≡◌, ℕ, suc, ◌<◌, ◌≤◌, ◌^◌, nat_lt, ℤ, pos, negsuc, List, [], ◌∷◌, ◌++◌, map, Bool, true, false, cond, Option, None, Some, Ok, Err, decimal, refl, ap, subst, ◌∙◌, slice_get, arith, sym, length}
 use Rattle.std.proofs.lemmas.Int.{ints}
 use Rattle.std.proofs.lemmas.Bool.{ne_eqb}
 use Rattle.std.proofs.lemmas.Fmt.{decimal_nonempty}
 use Rattle.std.specs.Fmt.{signed_decimal}
 use Rattle.std.specs.Option.{option_map, option_and_then}
+use Rattle.asm_core.specs.Comments.{uncommented}
+use Rattle.asm_core.proofs.ReadingLaws.CommentsAlike.{uncommented-alike, expansion_of-alike}
 use Rattle.asm_core.specs.Placement.{spot_of, IsAllowed}
 use Rattle.asm_core.specs.WellFormed.{IsInterface}
-use Rattle.asm_core.specs.Pieces.{piece_code}
-use Rattle.asm_core.specs.Reading.Comments.{outside_comments}
-use Rattle.asm_core.specs.Reading.Comments as comments
+use Rattle.asm_core.specs.Pieces.{piece_code, ArePieces}
+use Rattle.asm_core.proofs.ReadingLaws.PiecesApart.{are_apart}
+use Rattle.asm_core.proofs.ReadingLaws.CommentPlaces.{expansion_from, outside_comments}
+use Rattle.asm_core.proofs.ReadingLaws.CommentPlaces as comments
 use Rattle.asm_core.specs.Reading.Cut.{Raw, raws_of, instruction_count}
 use Rattle.asm_core.specs.Reading.Operands.{atom_code}
 use Rattle.asm_core.specs.Reading.Facts.{facts_of, slice_of, atom_of}
@@ -117,26 +120,32 @@ module _ (rows : List NameRow) (i : Interface) (s : Shape) (is : IsInterface i) 
     atoms-named (x ∷ xs) named = rw (atom-named x named.0, atoms-named xs named.1) refl
 
     -- the elements of the text are those of the template, placed
-    text_atoms : (ps : List Piece) (text : List Sign) → unique < 2 ^ 32 → is_apart (map piece_code (outside_comments piece_code (comments.Outside true) ps)) ≡ true → expansion_of i p unique ps ≡ Ok text
-        → map (atom_of_run (facts_of i s)) (runs_of (outside_comments sign_code (comments.Outside true) text)) ≡ placed_all p (map (atom_of (facts_of i s)) (outside_comments piece_code (comments.Outside true) ps))
+    text_atoms : (ps : List Piece) (text : List Sign) → unique < 2 ^ 32 → is_apart (map piece_code (uncommented piece_code ps)) ≡ true → expansion_of i p unique ps ≡ Ok text
+        → map (atom_of_run (facts_of i s)) (runs_of (uncommented sign_code text)) ≡ placed_all p (map (atom_of (facts_of i s)) (uncommented piece_code ps))
     text_atoms ps text small apart e =
         let give = give_text i p words unique small in
         let left = outside_comments piece_code (comments.Outside true) ps in
-        rw (expansion-signs i p unique (comments.Outside true) ps text e, outside-signs i p unique give (comments.Outside true) ps, runs-signs i p unique give left apart)
-        (atoms-named left (expansion-named i p unique (comments.Outside true) ps text e))
+        let given : expansion_from i p unique (comments.Outside true) ps ≡ Ok text = sym (expansion_of-alike i p unique ps) ∙ e in
+        let apart_left : is_apart (map piece_code left) ≡ true = rw (uncommented-alike piece_code ps) at apart in
+        rw (uncommented-alike piece_code ps, uncommented-alike sign_code text, expansion-signs i p unique (comments.Outside true) ps text given, outside-signs i p unique give (comments.Outside true) ps, runs-signs i p unique give left apart_left)
+        (atoms-named left (expansion-named i p unique (comments.Outside true) ps text given))
 
     lines_are : (raws : List (Raw Atom)) (b : Bool) (lines : Lines) → cond b (Err LinesEnd.TooMany) (Ok (lines_with raws (readings_of rows raws))) ≡ Ok lines → lines_with raws (readings_of rows raws) ≡ lines
     lines_are raws true lines e = cc
     lines_are raws false lines e = cc
 
-    text_code : (ps : List Piece) (text : List Sign) (lines : Lines) → unique < 2 ^ 32 → is_apart (map piece_code (outside_comments piece_code (comments.Outside true) ps)) ≡ true
+    text_code : (ps : List Piece) (text : List Sign) (lines : Lines) → unique < 2 ^ 32 → is_apart (map piece_code (uncommented piece_code ps)) ≡ true
         → lines_under rows i s ps ≡ Ok lines → expansion_of i p unique ps ≡ Ok text → code_of_text rows i s text ≡ code_under p lines
     unfolding text_raws template_raws
     text_code ps text lines small apart read e =
-        let atoms = map (atom_of (facts_of i s)) (outside_comments piece_code (comments.Outside true) ps) in
+        let atoms = map (atom_of (facts_of i s)) (uncommented piece_code ps) in
         let raws = raws_of atom_code atoms in
         rw (text_atoms ps text small apart e) (code-placed p rows atoms) ∙ ap (code_under p) (lines_are raws (nat_lt 512 (instruction_count raws)) lines read)
 
   -- Where what stands outside comments stands apart, the lines under a shape are those of the text under each allowed placement.
-  pub reads_whole : (ps : List Piece) (lines : Lines) → is_apart (map piece_code (outside_comments piece_code (comments.Outside true) ps)) ≡ true → lines_under rows i s ps ≡ Ok lines → ReadsWhole rows i s ps lines
+  pub reads_whole : (ps : List Piece) (lines : Lines) → is_apart (map piece_code (uncommented piece_code ps)) ≡ true → lines_under rows i s ps ≡ Ok lines → ReadsWhole rows i s ps lines
   reads_whole ps lines apart read = record { each = λ p unique text allowed words small e. text_code p unique allowed words ps text lines small apart read e }
+
+-- The lines of a template's pieces under a shape are those of the text under each allowed placement.
+pub pieces_read_whole : (rows : List NameRow) (i : Interface) (s : Shape) (ps : List Piece) (lines : Lines) → IsInterface i → ArePieces (length i.operands) ps → lines_under rows i s ps ≡ Ok lines → ReadsWhole rows i s ps lines
+pieces_read_whole rows i s ps lines is pieces read = reads_whole rows i s is ps lines (are_apart (length i.operands) ps pieces) read

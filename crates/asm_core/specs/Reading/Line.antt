@@ -3,10 +3,9 @@ use Rattle.std.specs.Prelude.{ℕ, ◌+◌, ◌-◌, ◌==◌, ◌||◌, ◌&&�
 use Rattle.std.specs.Option.{option_map}
 use Rattle.std.specs.List.{prefix_len}
 use Rattle.std.specs.Str.Parse.{digits_value}
+use Rattle.asm_core.specs.Comments.{uncommented}
 use Rattle.asm_core.specs.Reg.{reg_number}
 use Rattle.asm_core.specs.Pieces.{piece_code}
-use Rattle.asm_core.specs.Reading.Comments.{outside_comments}
-use Rattle.asm_core.specs.Reading.Comments as comments
 use Rattle.asm_core.specs.Reading.Cut.{is_blank, is_word, is_number_label, is_unique_label, same_name, Raw, raws_of, labels_from, instruction_count}
 use Rattle.asm_core.specs.Reading.Written.{register_named}
 use Rattle.asm_core.specs.Reading.Operands.{atom_code, trimmed, operands_of, all_some}
@@ -226,7 +225,7 @@ lines_with raws readings = record {
 
 -- the statements of pieces, each piece with what it stands for
 unfoldable pub template_raws : Interface → Shape → List Piece → List (Raw Atom)
-template_raws i s ps = raws_of atom_code (map (atom_of (facts_of i s)) (outside_comments piece_code (comments.Outside true) ps))
+template_raws i s ps = raws_of atom_code (map (atom_of (facts_of i s)) (uncommented piece_code ps))
 
 abbrev pub lines_of_raws : List NameRow → List (Raw Atom) → Result Lines LinesEnd
 lines_of_raws rows raws = if nat_lt 512 (instruction_count raws) then Err LinesEnd.TooMany else Ok (lines_with raws (readings_of rows raws))

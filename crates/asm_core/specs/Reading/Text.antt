@@ -5,8 +5,7 @@
 use Rattle.std.specs.Prelude.{ℕ, zero, suc, ◌==◌, ◌&&◌, max, ℤ, pos, true, List, [], ◌∷◌, length, map, drop, slice_index, slice_get, unwrap_or, Option, None, Some, if◌then◌else◌}
 use Rattle.std.specs.Option.{option_map}
 use Rattle.std.specs.List.{slice_split}
-use Rattle.asm_core.specs.Reading.Comments.{outside_comments}
-use Rattle.asm_core.specs.Reading.Comments as comments
+use Rattle.asm_core.specs.Comments.{uncommented}
 use Rattle.asm_core.specs.Reading.Cut.{Raw, raws_of, instruction_count}
 use Rattle.asm_core.specs.Reading.Written.{register_named, number_of}
 use Rattle.asm_core.specs.Reading.Operands.{atom_code}
@@ -148,7 +147,7 @@ atom_of_run facts (Run.Given o text) =
 
 -- the statements of a text
 unfoldable pub text_raws : Interface → Shape → List Sign → List (Raw Atom)
-text_raws i s signs = raws_of atom_code (map (atom_of_run (facts_of i s)) (runs_of (outside_comments sign_code (comments.Outside true) signs)))
+text_raws i s signs = raws_of atom_code (map (atom_of_run (facts_of i s)) (runs_of (uncommented sign_code signs)))
 
 abbrev pub register_arg : Place → Slice → Option InstArg
 register_arg (Place.Reg r) slice = Some (InstArg.Register r slice)

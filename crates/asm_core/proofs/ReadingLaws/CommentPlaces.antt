@@ -1,7 +1,11 @@
--- Comments in a template and in the text that is made from it (GNU as, "Comments"). `#` begins one that ends before the newline.
--- `/*` begins one that ends behind `*/`, where it is closed and stands at the beginning or behind a blank, a tab, a newline,
--- `;`, `:` or `,` (this project's own rule). What a hole stands for begins and ends none.
-use Rattle.std.specs.Prelude.{ℕ, ◌==◌, ◌||◌, ◌&&◌, Bool, true, false, List, [], ◌∷◌, map, if◌then◌else◌}
+-- Comments passed over from one element to the next.
+use Rattle.std.specs.Prelude.{Result, Ok, ℕ, ◌==◌, ◌||◌, ◌&&◌, Bool, true, false, List, [], ◌∷◌, map, if◌then◌else◌}
+use Rattle.asm_core.specs.Pieces.{piece_code}
+use Rattle.asm_core.specs.Reading.Text.{Sign}
+use Rattle.asm_core.specs.Expansion.{piece_text, onto_text}
+use Rattle.asm_core.specs.declared.piece.Piece.{Piece}
+use Rattle.asm_core.specs.declared.placement.Placement.{Placement}
+use Rattle.asm_core.specs.declared.interface.Interface.{Interface}
 use Rattle.asm_core.specs.Comments.{is_one_of, comment_breaks}
 
 -- where the next element stands
@@ -47,3 +51,11 @@ outside_comments code place [] = []
 outside_comments code place (x ∷ xs) =
     let rest = outside_comments code (place_behind place (code x) (map code xs)) xs in
     if is_comment place (code x) (map code xs) then rest else x ∷ rest
+
+-- the text of pieces, given where in or outside comments they begin
+unfoldable pub expansion_from : Interface → Placement → ℕ → Place → List Piece → Result (List Sign) ℕ
+expansion_from i p unique place [] = Ok []
+expansion_from i p unique place (x ∷ xs) =
+    let cs = map piece_code xs in
+    onto_text (piece_text i p unique (is_comment place (piece_code x) cs) x) (expansion_from i p unique (place_behind place (piece_code x) cs) xs)
+
