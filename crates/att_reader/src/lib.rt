@@ -3,6 +3,8 @@
 
 mod implicit;
 mod placed_line;
+mod table;
 
 pub use implicit::unasked;
 pub use placed_line::instantiate;
+pub use table::NAMES;
