@@ -8,10 +8,15 @@ use asm_core::{Op, RegSet, Repeat, Sym, Width};
 use bitflags::Flags;
 
 const EAX: u8 = 1;
+
 const EBX: u8 = 2;
+
 const ECX: u8 = 4;
+
 const EDX: u8 = 8;
+
 const ESI: u8 = 16;
+
 const EDI: u8 = 32;
 
 /// The accumulator: ax for bytes, else edx and eax.

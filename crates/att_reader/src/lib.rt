@@ -1,6 +1,7 @@
 //! Reads the lines of a template in AT&T syntax, as GNU as reads them.
 #![tactic(auto)]
 
+mod choice;
 mod implicit;
 mod placed_line;
 mod table;

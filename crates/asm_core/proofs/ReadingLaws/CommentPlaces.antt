@@ -58,4 +58,3 @@ expansion_from i p unique place [] = Ok []
 expansion_from i p unique place (x ∷ xs) =
     let cs = map piece_code xs in
     onto_text (piece_text i p unique (is_comment place (piece_code x) cs) x) (expansion_from i p unique (place_behind place (piece_code x) cs) xs)
-

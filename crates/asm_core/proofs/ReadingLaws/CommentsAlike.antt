@@ -1,6 +1,6 @@
 -- What stands outside comments, by going on from one element to the next, is what stands outside the comments that are found
 -- by their ends.
-use Rattle.std.proofs.Common.{◌≡◌, ℕ, zero, suc, ◌+◌, ◌-◌, ◌==◌, ◌&&◌, ◌||◌, ◌<◌, ◌≤◌, nat_lt, not, List, [], ◌∷◌, length, map, drop, get_or, Bool, true, false, cond, Option, None, Some, is_some, unwrap_or, refl, ap, sym, subst, ◌∙◌, slice_index, eq-eqb, arith}
+use Rattle.std.proofs.Common.{◌≡◌, ℕ, ◌+◌, ◌-◌, ◌==◌, ◌&&◌, ◌||◌, ◌<◌, ◌≤◌, nat_lt, List, [], ◌∷◌, map, drop, get_or, Bool, true, false, cond, Option, None, Some, is_some, refl, ap, sym, ◌∙◌, slice_index, eq-eqb, arith}
 use Rattle.std.proofs.lemmas.List.{get_or-drop, drop-drop}
 use Rattle.std.proofs.lemmas.Bool.{eqb-true, ne_eqb, lt-ltb, le-ltb}
 use Rattle.std.proofs.Math.Bool.{and-true}
@@ -10,7 +10,6 @@ use Rattle.asm_core.specs.declared.piece.Piece.{Piece}
 use Rattle.asm_core.specs.declared.placement.Placement.{Placement}
 use Rattle.asm_core.specs.declared.interface.Interface.{Interface}
 use Rattle.asm_core.specs.Comments.{is_one_of, comment_breaks, line_end, block_end, comment_end, comment_until, comments_from, kept, uncommented}
-use Rattle.asm_core.specs.Comments as by_ends
 use Rattle.asm_core.proofs.ReadingLaws.CommentPlaces.{expansion_from, Place, is_closed, opens_block, place_behind, is_inside, is_comment, outside_comments}
 
 -- an end stands behind its beginning
@@ -257,8 +256,10 @@ module _ (i : Interface) (p : Placement) (unique : ℕ) (cs : List ℕ) where
   expansion-alike until n place [] stands h = refl
   expansion-alike until n place (x ∷ ps) stands h =
       let s = step cs until n (piece_code x) (map piece_code ps) stands place h in
-      rw (same_piece x (nat_lt n (comment_until cs until n)) (is_comment place (piece_code x) (map piece_code ps)) s.mark,
-      expansion-alike (comment_until cs until n) (n + 1) (place_behind place (piece_code x) (map piece_code ps)) ps (behind_code cs until n (piece_code x) (map piece_code ps) stands) s.next) refl
+      rw (
+        same_piece x (nat_lt n (comment_until cs until n)) (is_comment place (piece_code x) (map piece_code ps)) s.mark,
+        expansion-alike (comment_until cs until n) (n + 1) (place_behind place (piece_code x) (map piece_code ps)) ps (behind_code cs until n (piece_code x) (map piece_code ps) stands) s.next,
+      ) refl
 
 -- both ways give one text
 pub expansion_of-alike : (i : Interface) (p : Placement) (unique : ℕ) (ps : List Piece) → expansion_of i p unique ps ≡ expansion_from i p unique (Place.Outside true) ps

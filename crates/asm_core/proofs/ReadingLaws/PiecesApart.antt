@@ -1,9 +1,9 @@
 -- The pieces of a template stand apart outside comments.
-use Rattle.std.proofs.Common.{◌≡◌, ℕ, ◌+◌, ◌&&◌, ◌≤◌, nat_lt, not, max, length, List, [], ◌∷◌, ◌++◌, map, Bool, true, false, IsTrue, refl, ap, sym, ◌∙◌, arith}
+use Rattle.std.proofs.Common.{◌≡◌, ℕ, ◌&&◌, nat_lt, not, max, length, List, [], ◌∷◌, ◌++◌, map, Bool, true, false, IsTrue, refl, arith}
 use Rattle.std.proofs.Math.Dec.{eqb-suc-zero}
 use Rattle.std.proofs.lemmas.Bool.{le-ltb}
 use Rattle.asm_core.specs.Comments.{uncommented}
-use Rattle.asm_core.specs.Pieces.{piece_code, may_follow, ends_name, StandsApart, StandApart, ArePieces}
+use Rattle.asm_core.specs.Pieces.{piece_code, may_follow, ends_name, StandApart, ArePieces}
 use Rattle.asm_core.specs.Reading.Placed.{is_apart}
 use Rattle.asm_core.specs.declared.piece.Modifier.{Modifier}
 use Rattle.asm_core.specs.declared.piece.Piece.{Piece}

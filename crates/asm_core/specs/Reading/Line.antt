@@ -1,5 +1,5 @@
 -- The lines of a template under a shape.
-use Rattle.std.specs.Prelude.{ℕ, ◌+◌, ◌-◌, ◌==◌, ◌||◌, ◌&&◌, nat_le, nat_lt, not, bit_or, ◌^◌, Bool, true, List, [], ◌∷◌, ◌++◌, length, map, take, drop, reverse, find, slice_index, unwrap_or, Option, None, Some, Result, Ok, Err, if◌then◌else◌}
+use Rattle.std.specs.Prelude.{ℕ, ◌+◌, ◌-◌, ◌==◌, ◌||◌, ◌&&◌, nat_le, nat_lt, not, bit_or, ◌^◌, Bool, List, [], ◌∷◌, ◌++◌, length, map, take, drop, reverse, find, slice_index, unwrap_or, Option, None, Some, Result, Ok, Err, if◌then◌else◌}
 use Rattle.std.specs.Option.{option_map}
 use Rattle.std.specs.List.{prefix_len}
 use Rattle.std.specs.Str.Parse.{digits_value}

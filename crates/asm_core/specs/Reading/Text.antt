@@ -2,7 +2,7 @@
 -- one operand gave is one element, and means what its bytes say: a register's name, a number, an address, by the kind of the
 -- operand. Only the number of a memory operand, and whether `%cl` may be a count, look at the operand itself. The number
 -- that `%=` gave is one element whatever its digits are.
-use Rattle.std.specs.Prelude.{ℕ, zero, suc, ◌==◌, ◌&&◌, max, ℤ, pos, true, List, [], ◌∷◌, length, map, drop, slice_index, slice_get, unwrap_or, Option, None, Some, if◌then◌else◌}
+use Rattle.std.specs.Prelude.{ℕ, zero, suc, ◌==◌, ◌&&◌, max, ℤ, pos, List, [], ◌∷◌, length, map, drop, slice_index, slice_get, unwrap_or, Option, None, Some, if◌then◌else◌}
 use Rattle.std.specs.Option.{option_map}
 use Rattle.std.specs.List.{slice_split}
 use Rattle.asm_core.specs.Comments.{uncommented}

@@ -1,5 +1,5 @@
 -- The registers that an instruction uses without naming them (Intel SDM volume 2).
-use Rattle.std.specs.Prelude.{ℕ, ◌==◌, Bool, true, false, List, [], ◌∷◌, ◌++◌, length, not, if◌then◌else◌}
+use Rattle.std.specs.Prelude.{ℕ, ◌==◌, List, [], ◌∷◌, ◌++◌, length, if◌then◌else◌}
 use Rattle.asm_core.specs.Reading.Chosen.{same_width}
 use Rattle.asm_core.specs.Reading.Line.{set_of}
 use Rattle.asm_core.specs.declared.reg.Reg.{Reg}
