@@ -4,6 +4,7 @@
 mod choice;
 mod implicit;
 mod placed_line;
+mod spelling;
 mod table;
 
 pub use implicit::unasked;

@@ -1,7 +1,7 @@
 -- Which line of the table of names an instruction has, by its name and the classes of its operands.
-use Rattle.std.specs.Prelude.{ℕ, ◌-◌, ◌==◌, ◌||◌, ◌&&◌, nat_le, not, Bool, true, false, List, [], ◌∷◌, length, take, drop, slice_index, count_by, Option, None, Some, is_some, if◌then◌else◌}
+use Rattle.std.specs.Prelude.{ℕ, ◌-◌, ◌==◌, ◌||◌, ◌&&◌, nat_le, not, Bool, true, false, List, [], ◌∷◌, length, take, drop, slice_index, count_by, Option, None, Some, is_some, if◌then◌else◌, unwrap_or}
 use Rattle.std.specs.Option.{option_map, option_and_then}
-use Rattle.std.specs.List.{prefix_len}
+use Rattle.std.specs.List.{position}
 use Rattle.asm_core.specs.Cond.{cond_named}
 use Rattle.asm_core.specs.Reading.Cut.{same_name}
 use Rattle.asm_core.specs.declared.reg.Slice.{Slice}
@@ -158,8 +158,11 @@ size_in row (Some suffix) cs = if_suffix row.suffixes (Some suffix)
 size_in row None cs = first_of_two row.width (if_suffix row.suffixes (register_width row.slots cs))
 
 -- the row's name without the zeros behind it
+abbrev pub name_end : List ℕ → ℕ
+name_end name = unwrap_or (position (λ c. c == 0) name) (length name)
+
 abbrev pub row_name : NameRow → List ℕ
-row_name row = take (prefix_len (λ c. not (c == 0)) row.name) row.name
+row_name row = take (name_end row.name) row.name
 
 abbrev pub with_condition : Operation → List ℕ → Option Op
 with_condition (Operation.Of op) rest = if length rest == 0 then Some op else None
