@@ -3,6 +3,7 @@
 
 mod choice;
 mod implicit;
+mod leaf;
 mod placed_line;
 mod spelling;
 mod table;
