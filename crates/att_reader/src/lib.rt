@@ -5,6 +5,7 @@ mod choice;
 mod implicit;
 mod leaf;
 mod placed_line;
+mod register;
 mod spelling;
 mod table;
 

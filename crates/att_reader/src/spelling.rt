@@ -36,13 +36,7 @@ fn with_condition(operation: Operation, rest: &[u8]) -> Option<Op>
     ensures { result ≡ with_condition operation rest.now }
 {
     match operation {
-        Operation::Of(op) => {
-            if rest.is_empty() {
-                Some(op)
-            } else {
-                None
-            }
-        }
+        Operation::Of(op) => { if rest.is_empty() { Some(op) } else { None } }
         Operation::Cmov => Cond::named(rest).map(Op::Cmov),
         Operation::Set => Cond::named(rest).map(Op::Set),
         Operation::Jump => Cond::named(rest).map(Op::J),
