@@ -4,9 +4,11 @@ mod Changing
 mod Entries
 mod Interfaces
 mod Machines
+mod Names
 mod Numbers
 mod Pieces
 mod Placements
+mod Readings
 mod Runs
 mod Shapes
 mod Values

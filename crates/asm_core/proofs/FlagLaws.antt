@@ -1,9 +1,7 @@
 -- Reading a flag of a set that was made from truth values.
 use Rattle.std.proofs.Common.{◌≡◌, ℕ, ◌+◌, ◌*◌, ◌/◌, ◌%◌, ◌<◌, ◌≤◌, ◌==◌, Bool, true, false, arith, refl, ap, ◌∙◌}
 use Rattle.asm_core.specs.Flag.{flag_in, flag_set, Truths, bit_if}
-use Rattle.asm_core.specs.Rows.{flags_of_sum}
 use Rattle.asm_core.specs.declared.flag.Flag.{Flag}
-use Rattle.asm_core.specs.declared.flag.FlagSet.{FlagSet}
 use Rattle.asm_core.specs.declared.flag.Flag.TheVariants.{Cf, Pf, Af, Zf, Sf, Of, Df}
 
 -- the truth value of a flag
@@ -86,12 +84,3 @@ module _ (t : Truths) where
   flag_in-flag_set Sf = ap (λ n. (n / 16 % 2) == 1) number ∙ ap (λ n. n == 1) (bit-4 _ _ _ _ _ _ _ bits) ∙ bit-one t.sf
   flag_in-flag_set Of = ap (λ n. (n / 32 % 2) == 1) number ∙ ap (λ n. n == 1) (bit-5 _ _ _ _ _ _ _ bits) ∙ bit-one t.of
   flag_in-flag_set Df = ap (λ n. (n / 64 % 2) == 1) number ∙ ap (λ n. n == 1) (bit-6 _ _ _ _ _ _ _ bits) ∙ bit-one t.df
-
--- a sum keeps the direction flag
-pub sum_keeps_direction : (old : FlagSet) (d s : ℕ) → flag_in Df (flags_of_sum old d s) ≡ flag_in Df old
-unfolding flags_of_sum
-sum_keeps_direction old d s = flag_in-flag_set _ Df
-
-pub flags_of_sum_small : (old : FlagSet) (d s : ℕ) → (flags_of_sum old d s).0 < 128
-unfolding flags_of_sum
-flags_of_sum_small old d s = flag_set_small _

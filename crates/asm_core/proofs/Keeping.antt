@@ -1,8 +1,8 @@
 -- What is kept from one state to a second and from there to a third, is kept from the first to the third.
 use Rattle.std.proofs.Common.{refl, ◌∙◌}
 use Rattle.asm_core.specs.Machine.{Location, Keeps}
-use Rattle.asm_core.specs.Rows.{Stepped}
-use Rattle.asm_core.proofs.Runs.{HoldsAfter}
+use Rattle.asm_core.specs.MicroOps.{Stepped}
+use Rattle.asm_core.specs.RowLaws.{HoldsAfter}
 use Rattle.asm_core.specs.declared.machine.Machine.{Machine}
 
 pub keeps_refl : (May : Location → Type 0) (m : Machine) → Keeps May m m
@@ -21,3 +21,10 @@ holds_after_then P Q (Stepped.Moved next) then h = then next h
 holds_after_then P Q (Stepped.MovedOutside next) then h = then next h
 holds_after_then P Q Stepped.Ended then h = h
 holds_after_then P Q (Stepped.Faulted fault) then h = tt
+
+-- two properties that hold after a step
+pub holds_after_both : (P Q : Machine → Type 0) (s : Stepped) → HoldsAfter P s → HoldsAfter Q s → HoldsAfter (λ m. P m × Q m) s
+holds_after_both P Q (Stepped.Moved next) p q = (p, q)
+holds_after_both P Q (Stepped.MovedOutside next) p q = (p, q)
+holds_after_both P Q Stepped.Ended p q = p
+holds_after_both P Q (Stepped.Faulted fault) p q = tt

@@ -2,6 +2,8 @@ mod Examples
 pub mod FlagLaws
 pub mod Keeping
 pub mod MachineLaws
+pub mod Puts
+pub mod ReadingLaws
 pub mod RegisterLaws
-pub mod RowLaws
 pub mod Runs
+pub mod StepLaws

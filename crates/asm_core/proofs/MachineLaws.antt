@@ -1,20 +1,21 @@
--- A step leaves numbers within the fields' types, and a move copies.
-use Rattle.std.proofs.Common.{◌≡◌, ℕ, ◌^◌, ◌<◌, ℤ, pos, negsuc, List, length, Option, None, Some, refl, ap, sym, subst, subst₂, ◌∙◌, arith}
-use Rattle.std.proofs.lemmas.List.{length-set, get_or-set_same}
+-- A written register is read back, and numbers are within the fields' types.
+use Rattle.std.proofs.Common.{◌≡◌, ⊎_elim, ℕ, ◌+◌, ◌^◌, ◌<◌, nat_lt, ℤ, pos, negsuc, List, [], ◌∷◌, length, slice_index, Bool, true, false, if◌then◌else◌, arith}
+use Rattle.std.specs.List.{All}
+use Rattle.std.proofs.lemmas.Bool.{cases_lt}
+use Rattle.std.proofs.lemmas.List.{get_or-set_same, get_or_past}
 use Rattle.std.proofs.lemmas.List.Elements.{All-set}
 use Rattle.asm_core.specs.Reg.{reg_number}
 use Rattle.asm_core.specs.Machine.{IsMachine, reg_in, with_reg}
-use Rattle.asm_core.specs.Rows.{row_step, on_args, on_values, effect_of, read_arg, arg_at, modulo}
-use Rattle.asm_core.proofs.Runs.{HoldsAfter}
-use Rattle.asm_core.proofs.FlagLaws.{flags_of_sum_small}
-use Rattle.asm_core.proofs.RowLaws.{at_width}
+use Rattle.asm_core.specs.Memory.{modulo}
+use Rattle.asm_core.specs.MicroOps.{with_part, pushed, put, put_all, destinations_of, values_of, read_in}
+use Rattle.asm_core.specs.Rows.{inst_row, row_step}
+use Rattle.asm_core.specs.RowLaws.{HoldsAfter}
+use Rattle.asm_core.proofs.StepLaws.{ended_holds}
 use Rattle.asm_core.specs.declared.reg.Reg.{Reg}
 use Rattle.asm_core.specs.declared.reg.Reg.TheVariants.{Eax, Ebx, Ecx, Edx, Esi, Edi, Ebp}
-use Rattle.asm_core.specs.declared.reg.Slice.{Slice}
-use Rattle.asm_core.specs.declared.flag.FlagSet.{FlagSet}
-use Rattle.asm_core.specs.declared.inst.Op.{Op}
 use Rattle.asm_core.specs.declared.inst.Inst.{Inst}
-use Rattle.asm_core.specs.declared.inst.InstArg.{InstArg}
+use Rattle.asm_core.specs.declared.micro_op.Bytes.{Bytes}
+use Rattle.asm_core.specs.declared.micro_op.Destination.{Destination}
 use Rattle.asm_core.specs.declared.machine.Machine.{Machine}
 
 pub reg_number_small : (r : Reg) → reg_number r < 7
@@ -37,69 +38,48 @@ pub modulo_small : (n : ℤ) → modulo n 32 < 2 ^ 32
 modulo_small (pos n) = omega arith
 modulo_small (negsuc n) = omega arith
 
-read_small : (arg : InstArg) (m : Machine) (v : ℕ) → IsMachine m → read_arg arg m ≡ Some v → v < 2 ^ 32
-read_small (InstArg.Register r Slice.All) m v h e = let same : reg_in r m ≡ v = cc in subst (λ n. n < 2 ^ 32) same (reg_in_small r m h)
-read_small (InstArg.Number n) m v h e = let same : modulo n 32 ≡ v = cc in subst (λ k. k < 2 ^ 32) same (modulo_small n)
-read_small arg m v h e = cc
+-- ---- a step leaves words in the registers
 
--- what an operation gives is within the fields
-record IsSmall (effect : ℕ × FlagSet) : Type 0 where
-  value : effect.0 < 2 ^ 32
-  flags : effect.1.0 < 128
+-- each register holds a number of 32 bits
+pub record AreWords (m : Machine) : Type 0 where
+  pub words : All (λ v. v < 2 ^ 32) m.regs
 
-effect_small : (op : Op) (s d : ℕ) (flags : FlagSet) → s < 2 ^ 32 → flags.0 < 128 → IsSmall (effect_of op s d flags)
-effect_small Op.Mov s d flags value small = record { value = value; flags = small }
-effect_small Op.Add s d flags value small = record { value = omega arith; flags = flags_of_sum_small flags d s }
+with_part_small : (bytes : Bytes) (v old : ℕ) → old < 2 ^ 32 → with_part bytes v old < 2 ^ 32
+with_part_small Bytes.Whole v old small = omega arith
+with_part_small Bytes.Byte0 v old small = omega arith
+with_part_small Bytes.Byte1 v old small = omega arith
+with_part_small Bytes.Byte2 v old small = omega arith
+with_part_small Bytes.Byte3 v old small = omega arith
+with_part_small Bytes.Low16 v old small = omega arith
+with_part_small Bytes.High16 v old small = omega arith
+with_part_small Bytes.Upper24 v old small = omega arith
+with_part_small Bytes.All v old small = omega arith
 
-module _ (goal : ℕ) (m : Machine) where
-  register_kept : (r : Reg) (effect : ℕ × FlagSet) → goal < 2 ^ 32 → IsSmall effect → IsMachine m → IsMachine (record (with_reg r effect.0 (record m { flags = effect.1 })) { at = goal })
-  register_kept r effect fits small h = record {
-    reg_count = length-set m.regs (reg_number r) effect.0 ∙ h.reg_count;
-    regs = All-set (λ v. v < 2 ^ 32) m.regs (reg_number r) effect.0 small.value h.regs;
-    esp = h.esp;
-    flags = small.flags;
-    ranges = h.ranges;
-    apart = h.apart;
-    scratch_count = h.scratch_count;
-    scratch = h.scratch;
-    pushed = h.pushed;
-    at = fits;
-  }
+-- a register of words is one, and 0 where the list is too short
+pub word_small : (m : Machine) (r : Reg) → AreWords m → reg_in r m < 2 ^ 32
+word_small m r h = read_small m.regs (reg_number r) h.words
+  where
+    read_small : (l : List ℕ) (k : ℕ) → All (λ v. v < 2 ^ 32) l → slice_index l k < 2 ^ 32
+    read_small l k all = ⊎_elim (λ within. all k 0 within) (λ past. rw (get_or_past l k 0 past) (omega arith)) (cases_lt k (length l))
 
-  values_machine : (op : Op) (s d : Option ℕ) (dest : InstArg) → goal < 2 ^ 32 → ((v : ℕ) → s ≡ Some v → v < 2 ^ 32) → IsMachine m → HoldsAfter IsMachine (on_values op s d dest goal m)
-  values_machine op None d dest fits small h = tt
-  values_machine op (Some s) None dest fits small h = tt
-  values_machine op (Some s) (Some d) (InstArg.Register r Slice.All) fits small h = register_kept r (effect_of op s d m.flags) fits (effect_small op s d m.flags (small s refl) h.flags) h
-  values_machine op (Some s) (Some d) (InstArg.Register r Slice.Low8) fits small h = tt
-  values_machine op (Some s) (Some d) (InstArg.Register r Slice.High8) fits small h = tt
-  values_machine op (Some s) (Some d) (InstArg.Register r Slice.Low16) fits small h = tt
-  values_machine op (Some s) (Some d) (InstArg.Number n) fits small h = tt
-  values_machine op (Some s) (Some d) (InstArg.Address form k) fits small h = tt
-  values_machine op (Some s) (Some d) (InstArg.Label k) fits small h = tt
+pub put_words : (d : Destination) (v : ℕ) (m : Machine) → AreWords m → AreWords (put d v m)
+put_words Destination.Nowhere v m h = h
+put_words (Destination.Register r bytes) v m h = record { words = All-set (λ x. x < 2 ^ 32) m.regs (reg_number r) (with_part bytes v (reg_in r m)) (with_part_small bytes v (reg_in r m) (word_small m r h)) h.words }
+put_words (Destination.Memory a n) v m h = record { words = h.words }
+put_words (Destination.Flag f) v m h = record { words = h.words }
+put_words (Destination.Push n) v m h = by_test (nat_lt n 16)
+  where
+    by_test : (t : Bool) → AreWords (if t then pushed n v m else m)
+    by_test true = record { words = h.words }
+    by_test false = h
+put_words (Destination.Pop n) v m h = record { words = h.words }
 
-  args_machine : (op : Op) (source dest : Option InstArg) → goal < 2 ^ 32 → IsMachine m → HoldsAfter IsMachine (on_args op source dest goal m)
-  args_machine op None dest fits h = tt
-  args_machine op (Some source) None fits h = tt
-  args_machine op (Some source) (Some dest) fits h = values_machine op (read_arg source m) (read_arg dest m) dest fits (λ v e. read_small source m v h e) h
+pub put_all_words : (ds : List Destination) (k : ℕ) (vs : List ℕ) (m : Machine) → AreWords m → AreWords (put_all ds k vs m)
+put_all_words [] k vs m h = h
+put_all_words (d ∷ ds) k vs m h = put_all_words ds (k + 1) vs (put d (slice_index vs k) m) (put_words d (slice_index vs k) m h)
 
-  -- a step goes from a state to a state
-  pub row_keeps_machine : (i : Inst) (choice : ℕ) (words : List ℕ) → goal < 2 ^ 32 → IsMachine m → HoldsAfter IsMachine (row_step i goal choice words m)
-  row_keeps_machine i choice words fits h = at_width IsMachine i.width (on_args i.op (arg_at i 0) (arg_at i 1) goal m) (args_machine i.op (arg_at i 0) (arg_at i 1) fits h)
-
-  values_copy : (s d : Option ℕ) (dest : InstArg) → length m.regs ≡ 7 → HoldsAfter (λ next. read_arg dest next ≡ s) (on_values Op.Mov s d dest goal m)
-  values_copy None d dest count = tt
-  values_copy (Some s) None dest count = tt
-  values_copy (Some s) (Some d) (InstArg.Register r Slice.All) count = ap Some (written_reg r s m count)
-  values_copy (Some s) (Some d) (InstArg.Register r Slice.Low8) count = tt
-  values_copy (Some s) (Some d) (InstArg.Register r Slice.High8) count = tt
-  values_copy (Some s) (Some d) (InstArg.Register r Slice.Low16) count = tt
-  values_copy (Some s) (Some d) (InstArg.Number n) count = tt
-  values_copy (Some s) (Some d) (InstArg.Address form k) count = tt
-  values_copy (Some s) (Some d) (InstArg.Label k) count = tt
-
-  -- after a move its destination reads as its source did
-  pub move_copies : (i : Inst) (source dest : InstArg) (choice : ℕ) (words : List ℕ) → i.op ≡ Op.Mov → arg_at i 0 ≡ Some source → arg_at i 1 ≡ Some dest → IsMachine m → HoldsAfter (λ next. read_arg dest next ≡ read_arg source m) (row_step i goal choice words m)
-  move_copies i source dest choice words moves reads writes h =
-      at_width (λ next. read_arg dest next ≡ read_arg source m) i.width (on_args i.op (arg_at i 0) (arg_at i 1) goal m)
-      (subst (λ op. HoldsAfter (λ next. read_arg dest next ≡ read_arg source m) (on_args op (arg_at i 0) (arg_at i 1) goal m)) (sym moves)
-      (subst₂ (λ s d. HoldsAfter (λ next. read_arg dest next ≡ read_arg source m) (on_args Op.Mov s d goal m)) (sym reads) (sym writes) (values_copy (read_arg source m) (read_arg dest m) dest h.reg_count)))
+pub step_words : (i : Inst) (goal choice : ℕ) (words : List ℕ) (m : Machine) → AreWords m → HoldsAfter AreWords (row_step i goal choice words m)
+step_words i goal choice words m h =
+    ended_holds AreWords (inst_row i) i goal (values_of i.width (read_in i choice words m) (inst_row i)) m
+    (λ e. record { words = h.words })
+    (λ e. record { words = (put_all_words (destinations_of i m (inst_row i)) 0 (values_of i.width (read_in i choice words m) (inst_row i)) m h).words })

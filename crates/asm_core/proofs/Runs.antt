@@ -1,17 +1,12 @@
 -- What each step keeps, a run keeps. Nothing here knows an instruction.
 use Rattle.std.proofs.Common.{◌≡◌, ℕ, zero, suc, List, drop, Option, None, Some, slice_get, slice_index, refl}
-use Rattle.asm_core.specs.Rows.{Stepped, row_step}
+use Rattle.asm_core.specs.MicroOps.{Stepped}
+use Rattle.asm_core.specs.RowLaws.{HoldsAfter}
+use Rattle.asm_core.specs.Rows.{row_step}
 use Rattle.asm_core.specs.Run.{Outcome, at_inst, stopped, after, first_words, run_of}
 use Rattle.asm_core.specs.declared.inst.Inst.{Inst}
 use Rattle.asm_core.specs.declared.inst.Code.{Code}
 use Rattle.asm_core.specs.declared.machine.Machine.{Machine}
-
--- the property holds after a step that is no fault; no instruction ends a run by itself
-abbrev pub HoldsAfter : (Machine → Type 0) → Stepped → Type 0
-HoldsAfter P (Stepped.Moved next) = P next
-HoldsAfter P (Stepped.MovedOutside next) = P next
-HoldsAfter P Stepped.Ended = ⊥
-HoldsAfter P (Stepped.Faulted fault) = Unit {0}
 
 -- each instruction of the code keeps the property
 pub record IsKept (P : Machine → Type 0) (code : Code) : Type 0 where

@@ -1,41 +1,22 @@
 -- The states in which a block may begin.
-use Rattle.std.specs.Prelude.{◌≡◌, ◌≢◌, ℕ, ◌+◌, ◌*◌, ◌%◌, ◌^◌, ◌<◌, ◌≤◌, zero, suc, List, length, false, IsTrue, Option, None, Some, slice_get}
+use Rattle.std.specs.Prelude.{◌≡◌, ◌≢◌, ℕ, ◌+◌, ◌*◌, ◌%◌, ◌^◌, ◌<◌, ◌≤◌, List, length, false, IsTrue, Option, None, Some, slice_get}
 use Rattle.asm_core.specs.Lists.{IsMember}
 use Rattle.asm_core.specs.Placement.{spot_of, tie_root, is_output}
 use Rattle.asm_core.specs.Shape.{shapes_of, IsLive}
 use Rattle.asm_core.specs.Flag.{flag_in}
-use Rattle.asm_core.specs.Machine.{reg_in, byte_at, covers, scratch_base, IsMachine}
-use Rattle.asm_core.specs.Rows.{modulo}
+use Rattle.asm_core.specs.Machine.{reg_in, covers, scratch_base, IsMachine}
+use Rattle.asm_core.specs.Memory.{modulo, address_of, word_at}
 use Rattle.asm_core.specs.declared.reg.Reg.{Reg}
 use Rattle.asm_core.specs.declared.flag.Flag.{Flag}
 use Rattle.asm_core.specs.declared.shape.Kind.{Kind}
 use Rattle.asm_core.specs.declared.shape.Shape.{Shape}
 use Rattle.asm_core.specs.declared.interface.OperandIface.{OperandIface}
 use Rattle.asm_core.specs.declared.interface.Interface.{Interface}
-use Rattle.asm_core.specs.declared.placement.Base.{Base}
 use Rattle.asm_core.specs.declared.placement.Form.{Form}
 use Rattle.asm_core.specs.declared.placement.Spot.{Spot}
 use Rattle.asm_core.specs.declared.placement.Placement.{Placement}
 use Rattle.asm_core.specs.declared.machine.Range.{Range}
 use Rattle.asm_core.specs.declared.machine.Machine.{Machine}
-
-abbrev base_in : Option Base → Machine → ℕ
-base_in None m = 0
-base_in (Some Base.Esp) m = m.esp
-base_in (Some (Base.Reg r)) m = reg_in r m
-
-abbrev index_in : Option (Reg × ℕ) → Machine → ℕ
-index_in None m = 0
-index_in (Some x) m = reg_in x.0 m * x.1
-
--- the address that a form gives
-abbrev pub address_of : Form → Machine → ℕ
-address_of form m = (modulo form.disp 32 + base_in form.base m + index_in form.index m) % 2 ^ 32
-
--- the n bytes from an address on as one number, the low byte first
-abbrev pub word_at : ℕ → ℕ → List Range → ℕ
-word_at zero a rs = 0
-word_at (suc n) a rs = byte_at rs (a % 2 ^ 32) + 256 * word_at n (a + 1) rs
 
 -- the value of an operand of that size at that spot, the addresses being those of the entry
 abbrev pub spot_value : Spot → ℕ → Machine → Machine → ℕ

@@ -1,5 +1,5 @@
 -- The flags in their order, and sets of them as truth values.
-use Rattle.std.specs.Prelude.{ℕ, ◌+◌, ◌/◌, ◌%◌, ◌^◌, ◌==◌, List, codes, Bool, if◌then◌else◌}
+use Rattle.std.specs.Prelude.{ℕ, ◌+◌, ◌*◌, ◌/◌, ◌%◌, ◌^◌, ◌==◌, List, codes, Bool, if◌then◌else◌}
 use Rattle.asm_core.specs.declared.flag.Flag.{Flag}
 use Rattle.asm_core.specs.declared.flag.Flag.TheVariants.{Cf, Pf, Af, Zf, Sf, Of, Df}
 use Rattle.asm_core.specs.declared.flag.FlagSet.{FlagSet}
@@ -44,3 +44,7 @@ bit_if b weight = if b then weight else 0
 -- the set of the flags that are true
 unfoldable pub flag_set : Truths → FlagSet
 flag_set t = record { 0 = bit_if t.cf 1 + bit_if t.pf 2 + bit_if t.af 4 + bit_if t.zf 8 + bit_if t.sf 16 + bit_if t.of 32 + bit_if t.df 64 }
+
+-- the set with a flag as the lowest bit of v
+abbrev pub with_flag : Flag → ℕ → FlagSet → FlagSet
+with_flag f v s = record { 0 = s.0 / (2 * 2 ^ flag_number f) * (2 * 2 ^ flag_number f) + v % 2 * 2 ^ flag_number f + s.0 % 2 ^ flag_number f }

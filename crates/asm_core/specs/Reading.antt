@@ -1,4 +1,14 @@
 -- The instructions of a template under a placement.
+pub mod Chosen
+pub mod Cut
+pub mod Facts
+pub mod Line
+pub mod Names
+pub mod Operands
+pub mod Placed
+pub mod Text
+pub mod Unasked
+pub mod Written
 use Rattle.std.specs.Prelude.{List, [], ◌∷◌, map, Option, None, Some, slice_get}
 use Rattle.asm_core.specs.Lists.{count_from}
 use Rattle.asm_core.specs.Placement.{spot_of}

@@ -1,6 +1,7 @@
 -- Runs of code: what becomes of a state within n steps.
 use Rattle.std.specs.Prelude.{ℕ, zero, suc, List, [], ◌∷◌, drop, Option, None, Some, slice_get, slice_index}
-use Rattle.asm_core.specs.Rows.{Stepped, row_step}
+use Rattle.asm_core.specs.MicroOps.{Stepped}
+use Rattle.asm_core.specs.Rows.{row_step}
 use Rattle.asm_core.specs.declared.inst.Inst.{Inst}
 use Rattle.asm_core.specs.declared.inst.Code.{Code}
 use Rattle.asm_core.specs.declared.machine.Fault.{Fault}

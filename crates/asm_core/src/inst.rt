@@ -1,4 +1,4 @@
-use crate::{Form, Items, Reg, Slice};
+use crate::{Cond, Form, Items, Reg, Slice};
 
 /// How many bytes an instruction works on: 1, 2, 4 or 8.
 #[derive(Clone, Copy, Debug, PartialEq, Eq)]
@@ -9,11 +9,75 @@ pub enum Width {
     Q,
 }
 
-/// What an instruction does.
+/// What an instruction does, named as the Intel SDM, volume 2, or GNU as names it.
 #[derive(Clone, Copy, Debug, PartialEq, Eq)]
 pub enum Op {
     Mov,
+    Movzbw,
+    Movzbl,
+    Movzwl,
+    Movsbw,
+    Movsbl,
+    Movswl,
+    Lea,
+    Xchg,
+    Push,
+    Pop,
+    Bswap,
+    Cmov(Cond),
+    Set(Cond),
+    Cltd,
+    Cwtl,
+    Nop,
+    Jmp,
+    J(Cond),
+    Jecxz,
+    Loop,
     Add,
+    Sub,
+    Adc,
+    Sbb,
+    Cmp,
+    And,
+    Or,
+    Xor,
+    Test,
+    Neg,
+    Not,
+    Inc,
+    Dec,
+    Mul,
+    Imul,
+    Div,
+    Idiv,
+    Clc,
+    Stc,
+    Cmc,
+    Shl,
+    Shr,
+    Sar,
+    Rol,
+    Ror,
+    Shld,
+    Shrd,
+    Bsf,
+    Bsr,
+    Bt,
+    Bts,
+    Btr,
+    Btc,
+    Movs,
+    Stos,
+    Lods,
+    Cmps,
+    Scas,
+    Cld,
+    Std,
+    Xadd,
+    Cmpxchg,
+    Cmpxchg8b,
+    Cpuid,
+    Rdtsc,
 }
 
 /// A prefix that repeats a string instruction.

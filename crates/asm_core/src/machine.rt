@@ -1,4 +1,4 @@
-use crate::{FlagSet, Items};
+use crate::{FlagSet, Items, Ranges};
 
 /// Why a step can't be done.
 #[derive(Clone, Copy, Debug, PartialEq, Eq)]
@@ -24,7 +24,7 @@ pub struct Machine {
     pub regs: [u32; 7],
     pub esp: u32,
     pub flags: FlagSet,
-    pub ranges: Items<Range>,
+    pub ranges: Ranges,
     /// The 64 bytes below esp as it was at the entry.
     pub scratch: [u8; 64],
     /// How many words are pushed, at most 16.

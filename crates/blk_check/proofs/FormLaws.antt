@@ -18,6 +18,7 @@ IsFirstSource source = (source ≡ operand 0) ⊎ ((source ≡ operand 1) ⊎ ((
 -- a move or a sum of four bytes from such a source to operand 0
 pub record IsFirstLine (line : Sym) : Type 0 where
   pub source : Arg
+  pub is_op : (line.op ≡ Op.Mov) ⊎ (line.op ≡ Op.Add)
   pub is_source : IsFirstSource source
   pub width : line.width ≡ Width.L
   pub args : line.args ≡ source ∷ operand 0 ∷ []
@@ -79,23 +80,23 @@ source_of-first text source e = go (either_way (same_text text (codes "%0")) (op
     go (inl s) = inl s
     go (inr s) = inr (second s)
 
-line_with-first : (op : Op) (place : ℕ) (source : Arg) → IsFirstSource source → IsFirstLine (line_with op place source)
-line_with-first op place source h = record { source = source; is_source = h; width = refl; args = refl; repeat = refl; lock = refl }
+line_with-first : (op : Op) (place : ℕ) (source : Arg) → ((op ≡ Op.Mov) ⊎ (op ≡ Op.Add)) → IsFirstSource source → IsFirstLine (line_with op place source)
+line_with-first op place source is_op h = record { source = source; is_op = is_op; is_source = h; width = refl; args = refl; repeat = refl; lock = refl }
 
-line_from-first : (op : Op) (place : ℕ) (o : Option (List ℕ)) (line : Sym) → line_from op place o ≡ Some line → IsFirstLine line
-line_from-first op place None line e = cc
-line_from-first op place (Some text) line e =
+line_from-first : (op : Op) (place : ℕ) (o : Option (List ℕ)) (line : Sym) → ((op ≡ Op.Mov) ⊎ (op ≡ Op.Add)) → line_from op place o ≡ Some line → IsFirstLine line
+line_from-first op place None line is_op e = cc
+line_from-first op place (Some text) line is_op e =
     let m = mapped (line_with op place) (source_of text) line e in
-    subst IsFirstLine (sym m.2) (line_with-first op place m.0 (source_of-first text m.0 m.1))
+    subst IsFirstLine (sym m.2) (line_with-first op place m.0 is_op (source_of-first text m.0 m.1))
 
-line_after-first : (op : Op) (place : ℕ) (o : Option (List ℕ)) (other : Option Sym) (line : Sym) → ((l : Sym) → other ≡ Some l → IsFirstLine l) → line_after op place o other ≡ Some line → IsFirstLine line
-line_after-first op place None other line h e = h line e
-line_after-first op place (Some operands) other line h e = line_from-first op place (before_suffix (codes ",%0") operands) line e
+line_after-first : (op : Op) (place : ℕ) (o : Option (List ℕ)) (other : Option Sym) (line : Sym) → ((op ≡ Op.Mov) ⊎ (op ≡ Op.Add)) → ((l : Sym) → other ≡ Some l → IsFirstLine l) → line_after op place o other ≡ Some line → IsFirstLine line
+line_after-first op place None other line is_op h e = h line e
+line_after-first op place (Some operands) other line is_op h e = line_from-first op place (before_suffix (codes ",%0") operands) line is_op e
 
 pub line_of-first : (place : ℕ) (text : List ℕ) (line : Sym) → line_of place text ≡ Some line → IsFirstLine line
 line_of-first place text line e =
-    line_after-first Op.Mov place (after_prefix (codes "movl ") text) (line_after Op.Add place (after_prefix (codes "addl ") text) None) line
-    (λ l h. line_after-first Op.Add place (after_prefix (codes "addl ") text) None l (λ q k. cc) h) e
+    line_after-first Op.Mov place (after_prefix (codes "movl ") text) (line_after Op.Add place (after_prefix (codes "addl ") text) None) line (inl refl)
+    (λ l h. line_after-first Op.Add place (after_prefix (codes "addl ") text) None l (inr refl) (λ q k. cc) h) e
 
 none_first : AreFirstLines []
 none_first = record { each = λ k line e. cc }

@@ -1,5 +1,5 @@
 -- A statement in the first form without findings changes only what it declares.
-use Rattle.std.proofs.Common.{◌≡◌, ◌⊎◌, inl, inr, ⊎_elim, ℕ, zero, suc, ◌&&◌, not, List, [], ◌∷◌, ◌++◌, Bool, true, false, IsTrue, Option, Some, slice_get, slice_index, refl, ap, sym, subst, ◌∙◌}
+use Rattle.std.proofs.Common.{◌≡◌, ◌⊎◌, inl, inr, ⊎_elim, ℕ, zero, suc, ◌&&◌, not, List, [], ◌∷◌, ◌++◌, Bool, true, false, IsTrue, Option, Some, slice_get, slice_index, slice_set, refl, ap, sym, subst, subst₂, ◌∙◌, ◌+◌, ◌%◌, ◌^◌, arith}
 use Rattle.std.specs.List.{list_any}
 use Rattle.std.proofs.lemmas.Bool.{cases_Bool, or_parts, eqb-true}
 use Rattle.std.proofs.lemmas.Option.{slice_get-map}
@@ -7,20 +7,30 @@ use Rattle.asm_core.specs.Lists.{IsMember}
 use Rattle.asm_core.specs.Placement.{spot_of, value_registers, is_output, IsAllowed}
 use Rattle.asm_core.specs.Shape.{shapes_of}
 use Rattle.asm_core.specs.Entry.{IsEntry}
-use Rattle.asm_core.specs.Machine.{Location, Keeps}
+use Rattle.asm_core.specs.Machine.{Location, Keeps, value_at, reg_in}
 use Rattle.asm_core.specs.Reading.{register_arg, placed_at, instance_of, code_of}
-use Rattle.asm_core.specs.Rows.{row_step, arg_at}
+use Rattle.asm_core.specs.Reg.{reg_number}
+use Rattle.asm_core.specs.MicroOps.{arg_at, arg_destination, destinations_of, put, read_arg, read_in, values_of, row_ended}
+use Rattle.asm_core.specs.RowLaws.{HoldsAfter, Component, component_in, ChangesOnly, IsHit, IsHitByOne}
+use Rattle.asm_core.specs.RowTerms.{repeated}
+use Rattle.asm_core.specs.Table.{row_of, mov_row}
+use Rattle.asm_core.specs.Rows.{inst_row, arg_count, row_step}
 use Rattle.asm_core.specs.Run.{Outcome, run_of}
-use Rattle.asm_core.specs.Frame.{MayChange, MayDiffer, IsFramed, KeepsFrame}
-use Rattle.asm_core.proofs.Runs.{HoldsAfter, IsKept, EndsIn, runs_in}
-use Rattle.asm_core.proofs.Keeping.{keeps_refl, keeps_trans, keeps_weaken, holds_after_then}
-use Rattle.asm_core.proofs.RowLaws.{Writes, ChangesOnly, row_keeps, self_move_keeps}
+use Rattle.asm_core.specs.Frame.{MayChange, MayDiffer, FlagMayChange, IsFramed, KeepsFrame}
+use Rattle.asm_core.proofs.Runs.{IsKept, EndsIn, runs_in}
+use Rattle.asm_core.proofs.Keeping.{keeps_refl, keeps_trans, keeps_weaken, holds_after_then, holds_after_both}
+use Rattle.asm_core.proofs.StepLaws.{ended_holds, step_changes}
+use Rattle.asm_core.proofs.MachineLaws.{AreWords, word_small, step_words}
+use Rattle.asm_core.proofs.RegisterLaws.{own_value_kept}
 use Rattle.asm_core.specs.declared.reg.Reg.{Reg}
 use Rattle.asm_core.specs.declared.reg.Slice.{Slice}
 use Rattle.asm_core.specs.declared.flag.Flag.{Flag}
-use Rattle.asm_core.specs.declared.flag.Flag.TheVariants.{Cf, Pf, Af, Zf, Sf, Of, Df}
+use Rattle.asm_core.specs.declared.flag.Flag.TheVariants.{Cf, Pf, Af, Zf, Sf, Of}
 use Rattle.asm_core.specs.declared.shape.Shape.{Shape}
+use Rattle.asm_core.specs.declared.micro_op.Bytes.{Bytes}
+use Rattle.asm_core.specs.declared.micro_op.Destination.{Destination}
 use Rattle.asm_core.specs.declared.inst.Op.{Op}
+use Rattle.asm_core.specs.declared.inst.Width.{Width}
 use Rattle.asm_core.specs.declared.inst.Inst.{Inst}
 use Rattle.asm_core.specs.declared.inst.InstArg.{InstArg}
 use Rattle.asm_core.specs.declared.sym.Place.{Place}
@@ -116,66 +126,147 @@ is_operand_true arg e = cc
 
 is_mov_true : (op : Op) → is_mov op ≡ true → op ≡ Op.Mov
 is_mov_true Op.Mov e = refl
-is_mov_true Op.Add e = cc
+is_mov_true op e = cc
 
 -- a line that moves operand 0 to itself reads where it writes
 same_args : (p : Placement) (line : Sym) → IsFirstLine line → is_operand 0 (source_in line) ≡ true → arg_at (instance_of p line) 0 ≡ arg_at (instance_of p line) 1
 same_args p line h e = ap (placed_at p) (is_operand_true (source_in line) e) ∙ sym (written_arg p line h)
 
+-- the row of a line's instruction, given that of its operation
+row_is : (p : Placement) (line : Sym) (op : Op) → IsFirstLine line → line.op ≡ op → inst_row (instance_of p line) ≡ row_of op line.width (arg_count (instance_of p line))
+row_is p line op h is_op =
+    ap (λ r. repeated r (row_of line.op line.width (arg_count (instance_of p line)))) h.repeat ∙ ap (λ o. row_of o line.width (arg_count (instance_of p line))) is_op
+
+-- what a location is among the components of a state
+abbrev component_of : Location → Component
+component_of (Location.Register r) = Component.WholeRegister r
+component_of (Location.FlagBit f) = Component.FlagBit f
+component_of (Location.Byte a) = Component.MemoryByte a
+component_of Location.Esp = Component.Esp
+
+same_value : (l : Location) (m : Machine) → component_in (component_of l) m ≡ value_at l m
+same_value (Location.Register r) m = refl
+same_value (Location.FlagBit f) m = refl
+same_value (Location.Byte a) m = refl
+same_value Location.Esp m = refl
+
+-- what changes only components of locations that may change, keeps the other locations
+kept_by : (P : Component → Type 0) (May : Location → Type 0) (before after : Machine) → ((l : Location) → P (component_of l) → May l) → ChangesOnly P before after → Keeps May before after
+kept_by P May before after may h = record {
+  values = λ l missed. sym (same_value l after) ∙ h.components (component_of l) (λ hit. missed (may l hit)) ∙ same_value l before;
+  layouts = h.layouts;
+}
+
+-- the position is no location
+moved_on : (m : Machine) (n : ℕ) → Keeps (λ l. ⊥) m (record m { at = n })
+moved_on m n = record { values = λ l free. at_kept l; layouts = refl }
+  where
+    at_kept : (l : Location) → value_at l (record m { at = n }) ≡ value_at l m
+    at_kept (Location.Register q) = refl
+    at_kept (Location.FlagBit f) = refl
+    at_kept (Location.Byte a) = refl
+    at_kept Location.Esp = refl
+
+-- a register that is written with its own value leaves the state as it was
+own_value_put : (w : Width) (spot : Spot) (n : ℕ) (m : Machine) → AreWords m
+    → Keeps (λ l. ⊥) m (record (put (arg_destination w Bytes.Whole (register_arg spot Slice.All) m) (read_arg w Bytes.Whole (register_arg spot Slice.All) m) m) { at = n })
+own_value_put w (Spot.Register r) n m fits =
+    let small = word_small m r fits in
+    let same : reg_in r m % 2 ^ 32 ≡ reg_in r m = omega arith in
+    subst (λ regs. Keeps (λ l. ⊥) m (record m { regs = regs; at = n })) (sym (ap (slice_set m.regs (reg_number r)) same ∙ own_value_kept r m)) (moved_on m n)
+own_value_put w spot n m fits = moved_on m n
+
+-- a move of operand 0 to itself changes nothing
+self_move_keeps : (p : Placement) (line : Sym) → IsFirstLine line → line.op ≡ Op.Mov → is_operand 0 (source_in line) ≡ true → (goal choice : ℕ) (words : List ℕ) (m : Machine) → AreWords m
+    → HoldsAfter (Keeps (λ l. ⊥) m) (row_step (instance_of p line) goal choice words m)
+self_move_keeps p line h moves own goal choice words m fits =
+    subst (λ row. HoldsAfter (Keeps (λ l. ⊥) m) (row_ended row (instance_of p line) goal choice words m)) (sym (row_is p line Op.Mov h moves))
+    (ended_holds (Keeps (λ l. ⊥) m) mov_row (instance_of p line) goal (values_of line.width (read_in (instance_of p line) choice words m) mov_row) m
+    (λ e. cc)
+    (λ e. subst₂ (λ s d. Keeps (λ l. ⊥) m (record (put (arg_destination line.width Bytes.Whole d m) (read_arg line.width Bytes.Whole s m) m) { at = m.at + 1 }))
+    (sym (same_args p line h own ∙ written_arg p line h)) (sym (written_arg p line h)) (own_value_put line.width (spot_of p 0) (m.at + 1) m fits)))
+
 -- ---- each instruction keeps the frame, and so does a run
 
 module _ (i : Interface) (s : Shape) (p : Placement) (entry : Machine) (lines : List Sym) where
-  -- what an instruction writes may change, where operand 0 is an output
-  may_change : (o : OperandIface) (line : Sym) → slice_get i.operands 0 ≡ Some o → is_output o.role ≡ true → IsFirstLine line → (i.cc ≡ false → is_mov line.op ≡ true) → (l : Location) → Writes (instance_of p line) l → MayChange i s p entry l
-  may_change o line found output h moves (Location.Register r) w = inl (record { number = 0; operand = o; is_operand = found; output = output; here = in_register (spot_of p 0) r (sym (written_arg p line h) ∙ w) })
-  may_change o line found output h moves (Location.FlagBit f) w = flag f w
+  -- the place of operand 0 may change, where it is an output
+  operand_may : (o : OperandIface) (w : Width) (m : Machine) → slice_get i.operands 0 ≡ Some o → is_output o.role ≡ true → (l : Location) → IsHit (arg_destination w Bytes.Whole (register_arg (spot_of p 0) Slice.All) m) (component_of l) → MayChange i s p entry l
+  operand_may o w m found output l hit = by_spot (spot_of p 0) refl l hit
     where
+      by_spot : (spot : Spot) → spot_of p 0 ≡ spot → (l : Location) → IsHit (arg_destination w Bytes.Whole (register_arg spot Slice.All) m) (component_of l) → MayChange i s p entry l
+      by_spot (Spot.Register r) e (Location.Register q) hit = inl (record { number = 0; operand = o; is_operand = found; output = output; here = subst (λ x. IsMember q (value_registers x)) (sym e) (inl (sym hit)) })
+      by_spot (Spot.Register r) e (Location.FlagBit f) hit = absurd hit
+      by_spot (Spot.Register r) e (Location.Byte a) hit = absurd hit
+      by_spot (Spot.Register r) e Location.Esp hit = absurd hit
+      by_spot Spot.Pair e l hit = absurd hit
+      by_spot (Spot.Memory form) e l hit = absurd hit
+      by_spot (Spot.Number n) e l hit = absurd hit
+
+  flag_may : (f : Flag) → FlagMayChange i f → (l : Location) → IsHit (Destination.Flag f) (component_of l) → MayChange i s p entry l
+  flag_may f may (Location.FlagBit g) hit = subst (FlagMayChange i) hit may
+  flag_may f may (Location.Register r) hit = absurd hit
+  flag_may f may (Location.Byte a) hit = absurd hit
+  flag_may f may Location.Esp hit = absurd hit
+
+  -- the six flags may change under `cc`
+  flags_may : IsTrue i.cc → (l : Location) → IsHitByOne (Destination.Flag Cf ∷ Destination.Flag Pf ∷ Destination.Flag Af ∷ Destination.Flag Zf ∷ Destination.Flag Sf ∷ Destination.Flag Of ∷ []) (component_of l) → MayChange i s p entry l
+  flags_may declared l hit =
+      ⊎_elim (flag_may Cf declared l) (⊎_elim (flag_may Pf declared l) (⊎_elim (flag_may Af declared l) (⊎_elim (flag_may Zf declared l) (⊎_elim (flag_may Sf declared l) (⊎_elim (flag_may Of declared l) (λ none. absurd none)))))) hit
+
+  -- what an accepted line writes may change, where operand 0 is an output
+  line_may : (o : OperandIface) (line : Sym) (m : Machine) → slice_get i.operands 0 ≡ Some o → is_output o.role ≡ true → IsFirstLine line → (i.cc ≡ false → is_mov line.op ≡ true)
+      → (l : Location) → IsHitByOne (destinations_of (instance_of p line) m (inst_row (instance_of p line))) (component_of l) → MayChange i s p entry l
+  line_may o line m found output h moves l hit = ⊎_elim move sum h.is_op
+    where
+      written : IsHit (arg_destination line.width Bytes.Whole (arg_at (instance_of p line) 1) m) (component_of l) → MayChange i s p entry l
+      written x = operand_may o line.width m found output l (subst (λ a. IsHit (arg_destination line.width Bytes.Whole a m) (component_of l)) (written_arg p line h) x)
+
       declared : line.op ≡ Op.Add → IsTrue i.cc
       declared sum = ⊎_elim (λ yes. yes) (λ none. absurd (sum_is_no_move sum (moves none))) (cases_Bool i.cc)
         where
           sum_is_no_move : line.op ≡ Op.Add → is_mov line.op ≡ true → ⊥
           sum_is_no_move a b = let c : is_mov Op.Add ≡ true = subst (λ op. is_mov op ≡ true) a b in cc
 
-      flag : (f : Flag) → Writes (instance_of p line) (Location.FlagBit f) → MayChange i s p entry (Location.FlagBit f)
-      flag Df w = w
-      flag Cf w = declared w
-      flag Pf w = declared w
-      flag Af w = declared w
-      flag Zf w = declared w
-      flag Sf w = declared w
-      flag Of w = declared w
-  may_change o line found output h moves (Location.Byte a) w = absurd w
-  may_change o line found output h moves Location.Esp w = w
+      of_row : (op : Op) → line.op ≡ op → IsHitByOne (destinations_of (instance_of p line) m (row_of op line.width (arg_count (instance_of p line)))) (component_of l)
+      of_row op is_op = subst (λ row. IsHitByOne (destinations_of (instance_of p line) m row) (component_of l)) (row_is p line op h is_op) hit
+
+      move : line.op ≡ Op.Mov → MayChange i s p entry l
+      move is_op = ⊎_elim written (λ none. absurd none) (of_row Op.Mov is_op)
+
+      sum : line.op ≡ Op.Add → MayChange i s p entry l
+      sum is_op = ⊎_elim written (flags_may (declared is_op) l) (of_row Op.Add is_op)
 
   -- from every state the step of an accepted line keeps what may not change
-  pub line_keeps : (o : OperandIface) → slice_get i.operands 0 ≡ Some o → IsAccepted i lines → (k : ℕ) (line : Sym) → slice_get lines k ≡ Some line → IsFirstLine line → (goal choice : ℕ) (words : List ℕ) (m : Machine)
+  pub line_keeps : (o : OperandIface) → slice_get i.operands 0 ≡ Some o → IsAccepted i lines → (k : ℕ) (line : Sym) → slice_get lines k ≡ Some line → IsFirstLine line → (goal choice : ℕ) (words : List ℕ) (m : Machine) → AreWords m
       → HoldsAfter (Keeps (MayChange i s p entry) m) (row_step (instance_of p line) goal choice words m)
-  line_keeps o found ok k line at h goal choice words m = ⊎_elim input output (role_cases o)
+  line_keeps o found ok k line at h goal choice words m fits = ⊎_elim input output (role_cases o)
     where
       input : is_input_alone (Some o) ≡ true → HoldsAfter (Keeps (MayChange i s p entry) m) (row_step (instance_of p line) goal choice words m)
       input alone =
           let moves = both (is_mov line.op) (is_operand 0 (source_in line)) (ok.input (subst (λ x. is_input_alone x ≡ true) (sym found) alone) k line at) in
-          holds_after_then (ChangesOnly (λ l. ⊥) goal m) (Keeps (MayChange i s p entry) m) (row_step (instance_of p line) goal choice words m)
-          (λ next c. keeps_weaken (λ l. ⊥) (MayChange i s p entry) m next (λ l none. absurd none) c.keeps)
-          (self_move_keeps goal m (instance_of p line) choice words (is_mov_true line.op moves.0) (same_args p line h moves.1))
+          holds_after_then (Keeps (λ l. ⊥) m) (Keeps (MayChange i s p entry) m) (row_step (instance_of p line) goal choice words m)
+          (λ next c. keeps_weaken (λ l. ⊥) (MayChange i s p entry) m next (λ l none. absurd none) c)
+          (self_move_keeps p line h (is_mov_true line.op moves.0) moves.1 goal choice words m fits)
 
       output : is_output o.role ≡ true → HoldsAfter (Keeps (MayChange i s p entry) m) (row_step (instance_of p line) goal choice words m)
       output out =
-          holds_after_then (ChangesOnly (Writes (instance_of p line)) goal m) (Keeps (MayChange i s p entry) m) (row_step (instance_of p line) goal choice words m)
-          (λ next c. keeps_weaken (Writes (instance_of p line)) (MayChange i s p entry) m next (may_change o line found out h (λ free. ok.flags free k line at)) c.keeps)
-          (row_keeps goal m (instance_of p line) choice words)
+          holds_after_then (ChangesOnly (IsHitByOne (destinations_of (instance_of p line) m (inst_row (instance_of p line)))) m) (Keeps (MayChange i s p entry) m) (row_step (instance_of p line) goal choice words m)
+          (λ next c. kept_by (IsHitByOne (destinations_of (instance_of p line) m (inst_row (instance_of p line)))) (MayChange i s p entry) m next (line_may o line m found out h (λ free. ok.flags free k line at)) c)
+          (step_changes (instance_of p line) goal choice words m)
 
-  code_keeps : (o : OperandIface) → slice_get i.operands 0 ≡ Some o → IsAccepted i lines → AreFirstLines lines → IsKept (Keeps (MayChange i s p entry) entry) (code_of p lines)
+  code_keeps : (o : OperandIface) → slice_get i.operands 0 ≡ Some o → IsAccepted i lines → AreFirstLines lines → IsKept (λ m. Keeps (MayChange i s p entry) entry m × AreWords m) (code_of p lines)
   code_keeps o found ok first = record { each = each }
     where
-      each : (m : Machine) (inst : Inst) (choice : ℕ) (words : List ℕ) → slice_get (code_of p lines).insts m.at ≡ Some inst → Keeps (MayChange i s p entry) entry m
-          → HoldsAfter (Keeps (MayChange i s p entry) entry) (row_step inst (slice_index (code_of p lines).goals m.at) choice words m)
+      each : (m : Machine) (inst : Inst) (choice : ℕ) (words : List ℕ) → slice_get (code_of p lines).insts m.at ≡ Some inst → Keeps (MayChange i s p entry) entry m × AreWords m
+          → HoldsAfter (λ next. Keeps (MayChange i s p entry) entry next × AreWords next) (row_step inst (slice_index (code_of p lines).goals m.at) choice words m)
       each m inst choice words at h =
           let placed = mapped (instance_of p) (slice_get lines m.at) inst (sym (slice_get-map (instance_of p) lines m.at) ∙ at) in
-          subst (λ x. HoldsAfter (Keeps (MayChange i s p entry) entry) (row_step x (slice_index (code_of p lines).goals m.at) choice words m)) (sym placed.2)
+          holds_after_both (Keeps (MayChange i s p entry) entry) AreWords (row_step inst (slice_index (code_of p lines).goals m.at) choice words m)
+          (subst (λ x. HoldsAfter (Keeps (MayChange i s p entry) entry) (row_step x (slice_index (code_of p lines).goals m.at) choice words m)) (sym placed.2)
           (holds_after_then (Keeps (MayChange i s p entry) m) (Keeps (MayChange i s p entry) entry) (row_step (instance_of p placed.0) (slice_index (code_of p lines).goals m.at) choice words m)
-          (λ next k. keeps_trans (MayChange i s p entry) entry m next h k)
-          (line_keeps o found ok m.at placed.0 placed.1 (first.each m.at placed.0 placed.1) (slice_index (code_of p lines).goals m.at) choice words m))
+          (λ next k. keeps_trans (MayChange i s p entry) entry m next h.0 k)
+          (line_keeps o found ok m.at placed.0 placed.1 (first.each m.at placed.0 placed.1) (slice_index (code_of p lines).goals m.at) choice words m h.1)))
+          (step_words inst (slice_index (code_of p lines).goals m.at) choice words m h.1)
 
   on_the_way : (l : Location) → MayChange i s p entry l → MayDiffer i s p entry l
   on_the_way (Location.Register r) w = tt
@@ -183,10 +274,10 @@ module _ (i : Interface) (s : Shape) (p : Placement) (entry : Machine) (lines : 
   on_the_way (Location.Byte a) w = w
   on_the_way Location.Esp w = tt
 
-  framed : (outcome : Outcome) → EndsIn (Keeps (MayChange i s p entry) entry) (code_of p lines) outcome → IsFramed i s p entry outcome
-  framed (Outcome.Ended m) e = e.0
-  framed (Outcome.Going m) e = keeps_weaken (MayChange i s p entry) (MayDiffer i s p entry) entry m on_the_way e
-  framed (Outcome.Failed fault m) e = keeps_weaken (MayChange i s p entry) (MayDiffer i s p entry) entry m on_the_way e
+  framed : (outcome : Outcome) → EndsIn (λ m. Keeps (MayChange i s p entry) entry m × AreWords m) (code_of p lines) outcome → IsFramed i s p entry outcome
+  framed (Outcome.Ended m) e = e.0.0
+  framed (Outcome.Going m) e = keeps_weaken (MayChange i s p entry) (MayDiffer i s p entry) entry m on_the_way e.0
+  framed (Outcome.Failed fault m) e = keeps_weaken (MayChange i s p entry) (MayDiffer i s p entry) entry m on_the_way e.0
 
 -- first-form lines without findings change only declared outputs and clobbers, whatever else the interface says
 pub accepted_frame : (i : Interface) (lines : List Sym) (zeroth : OperandIface) → slice_get i.operands 0 ≡ Some zeroth → AreFirstLines lines → verdict_of i lines ≡ [] → KeepsFrame i lines
@@ -196,5 +287,6 @@ accepted_frame i lines zeroth found first no_findings = record { each = each }
         → IsFramed i s p entry (run_of (code_of p lines) n choices outside entry)
     each s p entry n choices outside shape allowed begins =
         framed i s p entry lines (run_of (code_of p lines) n choices outside entry)
-        (runs_in (Keeps (MayChange i s p entry) entry) (code_of p lines)
-        (code_keeps i s p entry lines zeroth found (accepted i lines no_findings) first) n choices outside entry (keeps_refl (MayChange i s p entry) entry))
+        (runs_in (λ m. Keeps (MayChange i s p entry) entry m × AreWords m) (code_of p lines)
+        (code_keeps i s p entry lines zeroth found (accepted i lines no_findings) first) n choices outside entry
+        (keeps_refl (MayChange i s p entry) entry, record { words = begins.machine.regs }))

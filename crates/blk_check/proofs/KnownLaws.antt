@@ -42,11 +42,11 @@ read_value held source = and_false (is_entry_value held)
 
 value_after_line : (op : Op) (source : Option Arg) (known : Known) → is_entry_value (effect_on op source known).value ≡ (is_entry_value known.value && (is_mov op && is_operand 0 source))
 value_after_line Op.Mov source known = read_value known.value source
-value_after_line Op.Add source known = and_false (is_entry_value known.value)
+value_after_line op source known = and_false (is_entry_value known.value)
 
 flags_after_line : (op : Op) (source : Option Arg) (known : Known) → (effect_on op source known).flags_kept ≡ (known.flags_kept && is_mov op)
 flags_after_line Op.Mov source known = and_none known.flags_kept
-flags_after_line Op.Add source known = and_false known.flags_kept
+flags_after_line op source known = and_false known.flags_kept
 
 abbrev step : Known → Sym → Known
 step = λ known (line : Sym). effect_on line.op (source_in line) known

@@ -109,7 +109,7 @@ is_operand k arg = false
 
 abbrev pub is_mov : Op → Bool
 is_mov Op.Mov = true
-is_mov Op.Add = false
+is_mov op = false
 
 abbrev pub has_constraint : List ℕ → Part → Bool
 has_constraint text part = same_text part.constraint.bytes text

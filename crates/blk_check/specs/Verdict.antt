@@ -32,10 +32,10 @@ abbrev pub value_read : Value → Option Arg → Value
 value_read held (Some (Arg.Register (Place.Operand k) Slice.All)) = if k == 0 then held else Value.EntryOf k
 value_read held source = Value.Computed
 
--- a move copies, a sum is computed and sets the flags
+-- a move copies; of the first form's operations the other one, a sum, is computed and sets the flags
 abbrev pub effect_on : Op → Option Arg → Known → Known
 effect_on Op.Mov source known = record known { value = value_read known.value source }
-effect_on Op.Add source known = record { value = Value.Computed; flags_kept = false }
+effect_on op source known = record { value = Value.Computed; flags_kept = false }
 
 -- what is known after the lines
 abbrev pub known_after : List Sym → Known

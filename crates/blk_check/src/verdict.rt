@@ -226,7 +226,14 @@ fn moves_to_itself(line: &Sym) -> bool
 fn changes_flags(lines: &[Sym]) -> bool
     ensures { result ≡ list_any sets_flags lines.now }
 {
-    lines.iter().any(|line| line.op == Op::Add)
+    lines.iter().any(sets_flags)
+}
+
+/// Whether the line may change a flag.
+fn sets_flags(line: &Sym) -> bool
+    ensures { result ≡ sets_flags line.now }
+{
+    !matches!(line.op, Op::Mov)
 }
 
 fn at_end(rule: Rule, cell: Cell) -> Finding

@@ -1,7 +1,7 @@
 -- Bytes at the edges of two ranges that lie side by side, at 100 to 102 and at 103.
 use Rattle.std.proofs.Common.{◌≡◌, [], ◌∷◌, true, false, None, refl}
 use Rattle.asm_core.specs.Machine.{covers, byte_at, layouts_of}
-use Rattle.asm_core.specs.Entry.{word_at}
+use Rattle.asm_core.specs.Memory.{word_at}
 use Rattle.asm_core.specs.declared.machine.Range.{Range}
 
 abbrev pub low : Range

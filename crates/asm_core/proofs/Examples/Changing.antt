@@ -5,7 +5,8 @@ use Rattle.std.proofs.lemmas.Int.{ints}
 use Rattle.asm_core.specs.Lists.{IsMember}
 use Rattle.asm_core.specs.Machine.{IsMachine, IsRange, covers}
 use Rattle.asm_core.specs.Placement.{spot_of, tie_root, Fits, HasOperand, IsForm, IsAllowed}
-use Rattle.asm_core.specs.Entry.{address_of, IsChanging, HasObject, HoldsObjectByte, IsEntry}
+use Rattle.asm_core.specs.Entry.{IsChanging, HasObject, HoldsObjectByte, IsEntry}
+use Rattle.asm_core.specs.Memory.{address_of}
 use Rattle.asm_core.proofs.Examples.Machines.{fresh}
 use Rattle.asm_core.proofs.Examples.Shapes.{interface, operand, shape, rm}
 use Rattle.asm_core.proofs.Examples.Entries.{fresh_is_machine, all_below}

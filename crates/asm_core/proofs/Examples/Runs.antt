@@ -1,8 +1,6 @@
 -- Runs of `movl $7,%eax; addl $5,%eax; movl %eax,%ebx`.
 use Rattle.std.proofs.Common.{◌≡◌, pos, [], ◌∷◌, false, None, Some, refl}
-use Rattle.asm_core.specs.Rows.{flags_of_sum}
 use Rattle.asm_core.specs.Run.{Outcome, run_of}
-use Rattle.asm_core.specs.Flag.{flag_set}
 use Rattle.asm_core.proofs.Examples.Machines.{fresh}
 use Rattle.asm_core.specs.declared.reg.Reg.{Reg}
 use Rattle.asm_core.specs.declared.reg.Slice.{Slice}
@@ -35,15 +33,15 @@ abbrev ended : Machine
 ended = record fresh { regs = 12 ∷ 12 ∷ 3 ∷ 4 ∷ 5 ∷ 6 ∷ 7 ∷ []; flags = record { 0 = 2 }; at = 3 }
 
 to_the_end : run_of code 3 [] [] fresh ≡ Outcome.Ended ended
-unfolding flags_of_sum flag_set lib.Count.ones
+unfolding lib.Count.ones
 to_the_end = refl
 
 more_steps_than_there_are : run_of code 100 [] [] fresh ≡ Outcome.Ended ended
-unfolding flags_of_sum flag_set lib.Count.ones
+unfolding lib.Count.ones
 more_steps_than_there_are = refl
 
 two_steps : run_of code 2 [] [] fresh ≡ Outcome.Going (record fresh { regs = 12 ∷ 2 ∷ 3 ∷ 4 ∷ 5 ∷ 6 ∷ 7 ∷ []; flags = record { 0 = 2 }; at = 2 })
-unfolding flags_of_sum flag_set lib.Count.ones
+unfolding lib.Count.ones
 two_steps = refl
 
 no_step : run_of code 0 [] [] fresh ≡ Outcome.Going fresh

@@ -1,6 +1,7 @@
 -- Addresses, and the values of operands.
 use Rattle.std.proofs.Common.{◌≡◌, pos, negsuc, [], ◌∷◌, None, Some, refl}
-use Rattle.asm_core.specs.Entry.{address_of, spot_value}
+use Rattle.asm_core.specs.Entry.{spot_value}
+use Rattle.asm_core.specs.Memory.{address_of}
 use Rattle.asm_core.proofs.Examples.Machines.{fresh}
 use Rattle.asm_core.proofs.Examples.Bytes.{low, high}
 use Rattle.asm_core.specs.declared.reg.Reg.{Reg}

@@ -1,0 +1,12 @@
+-- Reading a template with holes and then placing is reading its text.
+pub mod CommentPlaces
+pub mod CommentsAlike
+pub mod CommentsLeft
+pub mod CutKept
+pub mod Law
+pub mod LinesPlaced
+pub mod OperandsPlaced
+pub mod OperandsBack
+pub mod PiecesApart
+pub mod ReadBack
+pub mod Runs

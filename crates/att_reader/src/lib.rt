@@ -1,0 +1,14 @@
+//! Reads the lines of a template in AT&T syntax, as GNU as reads them.
+#![tactic(auto)]
+
+mod choice;
+mod implicit;
+mod leaf;
+mod placed_line;
+mod register;
+mod spelling;
+mod table;
+
+pub use implicit::unasked;
+pub use placed_line::instantiate;
+pub use table::NAMES;

@@ -1,0 +1,5 @@
+//! What a row of micro-operations does to a machine, and what it reads, writes and names: once for all instructions.
+#![tactic(auto)]
+
+mod example;
+pub mod terms;
