@@ -1,5 +1,5 @@
 ghost use Rattle.std.specs.Prelude.{◌≡◌, ◌+◌, ◌/◌, ◌%◌, ◌<◌, ◌^◌};
-ghost use Rattle.asm_core.specs.Function.{bits_of, modulus_of, differ, sign_of, sum_of, carry_of, difference_of, borrow_of};
+ghost use Rattle.asm_core.specs.Function.{bits_of, modulus_of, differ, sign_of, sum_of, carry_of, sum_overflow_of, difference_of, borrow_of, difference_overflow_of};
 
 use asm_core::Width;
 
@@ -106,4 +106,18 @@ pub fn differ(a: u64, b: u64) -> u64
     ensures small { result < 2 }
 {
     (a + b) % 2
+}
+
+pub fn sum_overflow(width: Width, x: u64, y: u64, z: u64) -> u64
+    ensures { result ≡ sum_overflow_of (modulus_of width) x y z }
+{
+    let sum_sign = sign(width, sum(width, x, y, z));
+    differ(sign(width, x), sum_sign) * differ(sign(width, y), sum_sign)
+}
+
+pub fn difference_overflow(width: Width, x: u64, y: u64, z: u64) -> u64
+    ensures { result ≡ difference_overflow_of (modulus_of width) x y z }
+{
+    let x_sign = sign(width, x);
+    differ(x_sign, sign(width, y)) * differ(x_sign, sign(width, difference(width, x, y, z)))
 }

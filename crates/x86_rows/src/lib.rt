@@ -2,7 +2,9 @@
 #![tactic(auto)]
 
 mod arithmetic;
+mod bits;
 mod example;
+mod function;
 mod product;
 mod quotient;
 mod shift;
