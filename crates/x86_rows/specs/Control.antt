@@ -2,7 +2,7 @@
 use Rattle.std.specs.Prelude.{ℕ, Bool}
 use Rattle.asm_core.specs.MicroOps.{is_jump, is_stay, is_turn, is_divide, is_zero, is_set}
 use Rattle.asm_core.specs.declared.micro_op.Target.{Target}
-use Rattle.x86_rows.specs.declared.step.Control.{Control}
+use Rattle.x86_rows.specs.declared.stepper.Control.{Control}
 
 abbrev pub kind_of : Control → Target → Bool
 kind_of Control.Over = is_turn

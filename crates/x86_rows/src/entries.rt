@@ -1,6 +1,8 @@
 ghost use Rattle.std.specs.Prelude.{◌≡◌, ◌≤◌, ◌∷◌, ◌++◌, length, map, filter, slice_get};
 ghost use Rattle.std.specs.List.{filter_map};
-ghost use Rattle.asm_core.specs.Entries.{origins, source_in, has_name, sources_of, names_where, is_control, is_write, is_of_use, uses_of, reads_of, register_arg_of, pointed_arg, line_arg, first_in_name, copied, set_to, by_of, write_to_site, write_to, write_of, writes_of, write_numbers, if_named, named_of};
+ghost use Rattle.asm_core.specs.Entries.{origins, source_in, has_name, sources_of, names_where, is_control, is_write, is_of_use, uses_of, reads_of, register_arg_of, pointed_arg, line_arg, first_in_name, copied, set_to, by_of, write_to_site, write_to, write_of, writes_of, write_numbers, if_named, named_of, known_in};
+ghost use Rattle.asm_core.specs.RowLaws.{NamesDecide, ReadsKnown};
+ghost use Rattle.asm_core.specs.declared.placement.Placement.{Placement};
 ghost use Rattle.x86_rows.specs.Purpose.{targets_of};
 
 use crate::fact::{fact_at, facts, rank, slice_with};
@@ -329,8 +331,7 @@ fn nth_write(row: &[MicroOp], k: usize) -> Option<usize>
     None
 }
 
-/// The j-th thing that the k-th write names. Nothing where the write is a copy or sets a flag.
-pub fn named(row: &[MicroOp], s: &Sym, k: usize, j: usize) -> Option<Source>
+fn named_source(row: &[MicroOp], s: &Sym, k: usize, j: usize) -> Option<Source>
     requires { length row.now ≤ 24 }
     ensures { result ≡ slice_get (named_of row.now s.now k) j }
 {
@@ -340,4 +341,15 @@ pub fn named(row: &[MicroOp], s: &Sym, k: usize, j: usize) -> Option<Source>
         By::Named => nth_source(s, fact_at(facts(row, s).as_slice(), n).names, j),
         _ => None,
     }
+}
+
+/// The j-th thing that the k-th write names. Nothing where the write is a copy or sets a flag. What is named decides: two
+/// readings that agree on it give equal values, and numbers are read as they are known.
+pub fn named(row: &[MicroOp], s: &Sym, k: usize, j: usize) -> Option<Source>
+    requires { length row.now ≤ 24 }
+    ensures is { result ≡ slice_get (named_of row.now s.now k) j }
+    ensures decides { NamesDecide row.now s.now.width (known_in s.now) }
+    ensures known { length s.now.args ≤ 3 → (p : Placement) → ReadsKnown p s.now }
+{
+    named_source(row, s, k, j)
 }

@@ -4,7 +4,7 @@ ghost use Rattle.asm_core.specs.Entries.{slice_number, origin_rank, site_origin,
 use crate::function::value;
 use crate::memory::number;
 use crate::part::{count, sized};
-use crate::step::MOST;
+use crate::stepper::MOST;
 use arrayvec::ArrayVec;
 use asm_core::{Arg, Bytes, Fact, Function, Input, MicroOp, Origin, Site, Slice, Sym, Width};
 

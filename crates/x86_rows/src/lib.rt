@@ -1,7 +1,8 @@
-//! What a row of micro-operations does to a machine, and what it reads, writes and names: once for all instructions.
+//! What a row of micro-operations does to a machine, and what it reads, writes and names: once for all instructions. An
+//! instruction family is its rows, and calls these functions on them.
 #![tactic(auto)]
 
-mod access;
+mod accesses;
 mod arithmetic;
 mod bits;
 mod entries;
@@ -14,5 +15,9 @@ mod product;
 mod quotient;
 mod shift;
 mod state;
-mod step;
+mod stepper;
 pub mod terms;
+
+pub use accesses::access;
+pub use entries::{named, reads, uses, writes};
+pub use stepper::{Line, MOST, step};

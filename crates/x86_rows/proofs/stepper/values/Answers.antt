@@ -1,7 +1,7 @@
 use Rattle.std.proofs.Common.{◌<◌, length, arith}
 use Rattle.asm_core.specs.MicroOps.{read_in}
 use Rattle.x86_rows.proofs.Values.{blank, values-more}
-use Rattle.x86_rows.proofs.step.values.Goals as goal
+use Rattle.x86_rows.proofs.stepper.values.Goals as goal
 
 pub loop-op-preserved : goal.loop-op-preserved
 loop-op-preserved c =

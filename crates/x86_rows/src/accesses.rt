@@ -1,4 +1,4 @@
-ghost use Rattle.std.specs.Prelude.{◌≡◌, ◌++◌, length, slice_get};
+ghost use Rattle.std.specs.Prelude.{◌≡◌, ◌++◌, false, true, length, slice_get};
 ghost use Rattle.std.specs.List.{filter_map};
 ghost use Rattle.asm_core.specs.Entries.{site_count, count_at, or_else, input_load, touched, target_store, op_load, op_access, row_access, memory_arg, memory_in, access_at, accesses_of};
 
@@ -151,6 +151,7 @@ fn count_loads(row: &[MicroOp], s: &Sym, origins: &[Origin]) -> usize
 }
 
 /// The k-th access to memory, loads before stores.
+#[tactic(auto, using(crate::proofs::Appended::nth_of_both))]
 pub fn access(row: &[MicroOp], s: &Sym, k: usize) -> Option<Access>
     ensures { result ≡ slice_get (accesses_of row.now s.now) k }
 {
