@@ -1,9 +1,9 @@
-ghost use Rattle.std.specs.Prelude.{◌≡◌, [], ◌-◌, ◌≤◌, slice_index};
+ghost use Rattle.std.specs.Prelude.{◌≡◌, [], ◌∷◌, ◌++◌, ◌-◌, ◌≤◌, slice_index, OnOk, OnErr};
 ghost use Rattle.std.specs.List.{list_any};
 ghost use Rattle.asm_core.specs.Machine.{byte_at, covers};
 ghost use Rattle.asm_core.specs.Memory.{with_byte, put_byte, lets_in, is_open_to};
 
-use crate::Range;
+use crate::{Memory, Range};
 use std::alloc::Global;
 use std::marker::Model;
 
@@ -29,6 +29,21 @@ impl Ranges {
         Ranges {
             items: Vec::new(alloc),
         }
+    }
+
+    /// Adds a range.
+    pub fn push(&mut self, range: Range) -> Result<(), Memory>
+        ensures ok { OnOk result (self.new ≡ self.old ++ range ∷ []) }
+        ensures err { OnErr result (self.new ≡ self.old) }
+    {
+        self.items.push(range)?;
+        Ok(())
+    }
+
+    pub fn as_slice(&self) -> &[Range]
+        ensures { result.now ≡ self.now }
+    {
+        self.items.as_slice()
     }
 
     /// The byte at the address, 0 in no range.

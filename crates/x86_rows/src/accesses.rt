@@ -66,7 +66,10 @@ fn target_store(width: Width, origin: Origin, target: Target) -> Option<u8>
 fn op_load(width: Width, origin: Origin, op: &MicroOp) -> Option<u8>
     ensures { result ≡ op_load width origin op.now }
 {
-    let last = or_else(input_load(width, origin, op.y), input_load(width, origin, op.z));
+    let last = or_else(
+        input_load(width, origin, op.y),
+        input_load(width, origin, op.z),
+    );
     let inputs = or_else(input_load(width, origin, op.x), last);
     or_else(touched(width, origin, op.target), inputs)
 }

@@ -90,7 +90,10 @@ pub fn difference(width: Width, x: u64, y: u64, z: u64) -> u64
     ensures { result ≡ difference_of (modulus_of width) x y z }
 {
     let top = 2 * modulus(width) + u128::from(cut_word(width, x));
-    cut(width, top - u128::from(cut_word(width, y)) - u128::from(z % 2))
+    cut(
+        width,
+        top - u128::from(cut_word(width, y)) - u128::from(z % 2),
+    )
 }
 
 pub fn borrow(width: Width, x: u64, y: u64, z: u64) -> u64

@@ -38,7 +38,11 @@ pub fn bit_reset(width: Width, x: u64, y: u64) -> u64
 {
     let x_cut = cut_word(width, x);
     let weight = 1 << place(width, y);
-    if bit(width, x, y) == 0 { x_cut } else { x_cut.saturating_sub(weight) }
+    if bit(width, x, y) == 0 {
+        x_cut
+    } else {
+        x_cut.saturating_sub(weight)
+    }
 }
 
 pub fn parity(x: u64) -> u64
@@ -76,7 +80,11 @@ pub fn index_step(width: Width, x: u64, y: u64) -> u64
 {
     let size = u64::from(bits(width) / 8);
     let index = x % 4294967296;
-    if y.is_multiple_of(2) { (index + size) % 4294967296 } else { (index + 4294967296 - size) % 4294967296 }
+    if y.is_multiple_of(2) {
+        (index + size) % 4294967296
+    } else {
+        (index + 4294967296 - size) % 4294967296
+    }
 }
 
 pub fn join(x: u64, y: u64) -> u64

@@ -6,8 +6,11 @@ ghost use Rattle.asm_core.specs.declared.placement.Placement.{Placement};
 ghost use Rattle.x86_rows.specs.Purpose.{targets_of};
 
 use crate::fact::{fact_at, facts, rank, slice_with};
-use crate::part::{count, first, sized, size};
-use asm_core::{Arg, By, Bytes, Disp, Fact, Flag, Function, Input, MicroOp, Origin, Place, Reg, Site, Slice, Source, Sym, Target, Write, Written};
+use crate::part::{count, first, size, sized};
+use asm_core::{
+    Arg, By, Bytes, Disp, Fact, Flag, Function, Input, MicroOp, Origin, Place, Reg, Site, Slice,
+    Source, Sym, Target, Write, Written,
+};
 use sqlite_items::at;
 
 /// All origins of a line, in the order of sources.
@@ -211,7 +214,10 @@ fn copied(s: &Sym, x: Input) -> By
     ensures { result ≡ copied s.now x }
 {
     match x {
-        Input::Read(Site::Argument(k, bytes)) => By::Copy(Source::Arg(line_arg(s, k)), first(bytes)),
+        Input::Read(Site::Argument(k, bytes)) => By::Copy(
+            Source::Arg(line_arg(s, k)),
+            first(bytes),
+        ),
         Input::Read(Site::Register(r, bytes)) => By::Copy(
             Source::Arg(register_arg(r, slice_with(sized(s.width, bytes)))),
             first_in_name(bytes),
@@ -256,7 +262,11 @@ fn write_to_site(s: &Sym, by: By, site: Site) -> Write
     ensures { result ≡ write_to_site s.now by site }
 {
     let (to, first, count) = match site {
-        Site::Argument(k, bytes) => (Written::Arg(line_arg(s, k)), first(bytes), count(s.width, bytes)),
+        Site::Argument(k, bytes) => (
+            Written::Arg(line_arg(s, k)),
+            first(bytes),
+            count(s.width, bytes),
+        ),
         Site::Register(r, bytes) => {
             let bytes_there = sized(s.width, bytes);
             (

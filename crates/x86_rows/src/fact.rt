@@ -144,7 +144,13 @@ fn is_sure(f: Function, width: Width) -> bool
     )
 }
 
-fn known_from(f: Function, width: Width, x: Option<u64>, y: Option<u64>, z: Option<u64>) -> Option<u64>
+fn known_from(
+    f: Function,
+    width: Width,
+    x: Option<u64>,
+    y: Option<u64>,
+    z: Option<u64>,
+) -> Option<u64>
     ensures { result ≡ known_from f width x y z }
 {
     if is_sure(f, width) {

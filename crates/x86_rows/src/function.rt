@@ -10,13 +10,7 @@ pub fn value(function: Function, w: Width, x: u64, y: u64, z: u64) -> u64
 {
     match function {
         Function::Copy | Function::Value | Function::Set => x,
-        Function::Pick => {
-            if x == 0 {
-                z
-            } else {
-                y
-            }
-        }
+        Function::Pick => { if x == 0 { z } else { y } }
         Function::IsZero => u64::from(arithmetic::cut_word(w, x) == 0),
         Function::IsNonZero => u64::from(arithmetic::cut_word(w, x) != 0),
         Function::Sign => arithmetic::sign(w, x),
@@ -48,7 +42,9 @@ pub fn value(function: Function, w: Width, x: u64, y: u64, z: u64) -> u64
         Function::Count => u64::from(shift::count(x)),
         Function::CountIsOne => u64::from(shift::count(x) == 1),
         Function::CountBelowWidth => u64::from(shift::count(x) < arithmetic::bits(w)),
-        Function::CountTurns => u64::from(shift::count(x) == 0 || shift::count(x) % arithmetic::bits(w) != 0),
+        Function::CountTurns => u64::from(
+            shift::count(x) == 0 || shift::count(x) % arithmetic::bits(w) != 0,
+        ),
         Function::ShiftLeft => shift::shift_left(w, x, y),
         Function::ShiftRight => shift::shift_right(w, x, y),
         Function::ShiftArithmeticRight => shift::shift_arithmetic_right(w, x, y),

@@ -96,7 +96,13 @@ fn is_good_byte(m: &Machine, through: Option<u8>, store: bool, address: u32) -> 
 }
 
 /// Whether each of the bytes from an address on may be reached.
-pub fn is_good_access(m: &Machine, through: Option<u8>, store: bool, count: u8, address: u64) -> bool
+pub fn is_good_access(
+    m: &Machine,
+    through: Option<u8>,
+    store: bool,
+    count: u8,
+    address: u64,
+) -> bool
     requires { address + count < 2 ^ 40 }
     ensures { result ≡ is_good_access m.now through store count address }
 {
@@ -111,7 +117,11 @@ fn byte(bytes: &[u8], k: usize) -> u64
     ensures is { result ≡ slice_index bytes.now k }
     ensures small { result < 256 }
 {
-    if k < bytes.len() { u64::from(bytes[k]) } else { 0 }
+    if k < bytes.len() {
+        u64::from(bytes[k])
+    } else {
+        0
+    }
 }
 
 /// The word of that number of the scratch.

@@ -81,7 +81,10 @@ fn left_with(width: Width, x: u64, y: u64, by: u32) -> u64
     requires { by < 32 }
     ensures { result ≡ (x % modulus_of width * 2 ^ by + y % modulus_of width * 2 ^ by / modulus_of width) % modulus_of width }
 {
-    cut(width, widened(width, x, by) + above(width, widened(width, y, by)))
+    cut(
+        width,
+        widened(width, x, by) + above(width, widened(width, y, by)),
+    )
 }
 
 pub fn shift_double_left(width: Width, x: u64, y: u64, z: u64) -> u64

@@ -1,7 +1,9 @@
 ghost use Rattle.std.specs.Prelude.{◌≡◌, ◌/◌, ◌<◌, ◌^◌, slice_index};
 ghost use Rattle.asm_core.specs.MicroOps.{arg_at, read_arg, read_site, read_in, address_in, is_good_arg, is_good_site, is_good_input, is_good_target, is_good_op, arg_destination, site_destination, destination_of, put, pushed, popped};
 
-use crate::memory::{address, is_good_access, number, register, scratch_word, set_scratch_word, set_word, word_at};
+use crate::memory::{
+    address, is_good_access, number, register, scratch_word, set_scratch_word, set_word, word_at,
+};
 use crate::part::{count, first, part, size, sized, with_part, within};
 use asm_core::{Bytes, Destination, Input, Inst, InstArg, Machine, MicroOp, Site, Target, Width};
 use sqlite_items::at;
@@ -101,7 +103,13 @@ fn is_good_site(i: &Inst, m: &Machine, store: bool, site: Site) -> bool
 {
     match site {
         Site::Argument(k, bytes) => is_good_arg(i.width, bytes, store, arg(i, k), m),
-        Site::Pointed(r) => is_good_access(m, None, store, size(i.width), u64::from(register(m, r))),
+        Site::Pointed(r) => is_good_access(
+            m,
+            None,
+            store,
+            size(i.width),
+            u64::from(register(m, r)),
+        ),
         Site::Register(..) | Site::Flag(_) => true,
     }
 }
@@ -200,7 +208,12 @@ pub fn put(m: &mut Machine, destination: Destination, v: u64)
     match destination {
         Destination::Nowhere => {}
         Destination::Register(r, bytes) => m.regs[r.number()] = with_part(bytes, v, register(m, r)),
-        Destination::Memory(address, count) => set_word(&mut m.ranges, u64::from(address), count, v),
+        Destination::Memory(address, count) => set_word(
+            &mut m.ranges,
+            u64::from(address),
+            count,
+            v,
+        ),
         Destination::Flag(f) => m.flags = m.flags.with(f, v),
         Destination::Push(n) if n < 16 => push(m, n, v),
         Destination::Push(_) => {}

@@ -14,6 +14,7 @@ use asm_core::{Destination, Fault, Input, Inst, Machine, MicroOp, StepEnd, Targe
 pub const MOST: usize = 24;
 
 type Values = ArrayVec<u64, MOST>;
+
 type Destinations = ArrayVec<Destination, MOST>;
 
 /// An instruction, and what its step takes besides the machine: undefined bits, and the words that come from outside.
@@ -23,10 +24,9 @@ pub struct Line<'a> {
     pub words: &'a [u32; 4],
 }
 
-fn earlier(values: &[u64], k: u8) -> u64
+fn value_at(values: &[u64], k: usize) -> u64
     ensures { result ≡ slice_index values.now k }
 {
-    let k = usize::from(k);
     if k < values.len() { values[k] } else { 0 }
 }
 
@@ -34,7 +34,7 @@ fn input(line: &Line, m: &Machine, values: &[u64], x: Input) -> u64
     ensures { result ≡ input_of (read_in line.now.inst.now line.now.choice line.now.words.now m.now) values.now x }
 {
     match x {
-        Input::Earlier(k) => earlier(values, k),
+        Input::Earlier(k) => value_at(values, usize::from(k)),
         Input::Number(n) => u64::from(n),
         _ => read(line.inst, line.choice, line.words, m, x),
     }
@@ -79,8 +79,7 @@ fn put_all(m: &mut Machine, destinations: &[Destination], values: &[u64])
     ensures { m.new ≡ put_all destinations.now 0 values.now m.old }
 {
     for (k, destination) in destinations.iter().enumerate() {
-        let value = if k < values.len() { values[k] } else { 0 };
-        put(m, *destination, value);
+        put(m, *destination, value_at(values, k));
     }
 }
 
@@ -88,12 +87,6 @@ fn are_good(i: &Inst, m: &Machine, row: &[MicroOp]) -> bool
     ensures { result ≡ list_all (is_good_op i.now m.now) row.now }
 {
     row.iter().all(|op| is_good_op(i, m, op))
-}
-
-fn value_at(values: &[u64], k: usize) -> u64
-    ensures { result ≡ slice_index values.now k }
-{
-    if k < values.len() { values[k] } else { 0 }
 }
 
 /// What a value can say of how the step goes on.
@@ -168,7 +161,11 @@ fn end(m: &mut Machine, i: &Inst, row: &[MicroOp], goal: u32, values: &[u64]) ->
     let destinations = destinations(i, m, row);
     put_all(m, destinations.as_slice(), values);
     m.at = next;
-    if takes_outside(row) { StepEnd::MovedOutside } else { StepEnd::Moved }
+    if takes_outside(row) {
+        StepEnd::MovedOutside
+    } else {
+        StepEnd::Moved
+    }
 }
 
 fn step_by_row(m: &mut Machine, row: &[MicroOp], line: &Line, goal: u32) -> StepEnd

@@ -1,4 +1,4 @@
-use Rattle.std.proofs.Common.{◌+◌, ◌*◌, ◌^◌, ◌<◌, ◌≤◌, arith}
+use Rattle.std.proofs.Common.{◌+◌, ◌*◌, ◌^◌, ◌<◌, arith}
 use Rattle.x86_rows.proofs.Words.{byte_below, bytes_small}
 use Rattle.x86_rows.proofs.memory.+word_at.Goals as goal
 
