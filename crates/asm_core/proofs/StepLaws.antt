@@ -1,9 +1,11 @@
 -- A step of any row changes only what is at its destinations.
-use Rattle.std.proofs.Common.{◌≡◌, ℕ, ◌+◌, List, Bool, true, false, not, if◌then◌else◌, refl, ◌∙◌}
+use Rattle.std.proofs.Common.{◌≡◌, ℕ, ◌+◌, List, Bool, true, false, not, if◌then◌else◌, refl, ◌∙◌, ap, sym, subst}
 use Rattle.std.specs.List.{list_all}
 use Rattle.asm_core.specs.MicroOps.{Stepped, is_good_op, destinations_of, is_over, divides, takes_outside, next_of, put_all, moved, written, ended_by, values_of, read_in}
 use Rattle.asm_core.specs.RowLaws.{HoldsAfter, Component, component_in, ChangesOnly, IsHitByOne}
-use Rattle.asm_core.specs.Rows.{inst_row, row_step}
+use Rattle.asm_core.specs.Machine.{layouts_of}
+use Rattle.asm_core.specs.Rows.{inst_row, row_step, IsStepOf}
+use Rattle.asm_core.specs.declared.row.StepEnd.{StepEnd}
 use Rattle.asm_core.proofs.Puts.{put_all_keeps, put_all_layouts}
 use Rattle.asm_core.specs.declared.inst.Inst.{Inst}
 use Rattle.asm_core.specs.declared.micro_op.MicroOp.{MicroOp}
@@ -52,3 +54,10 @@ row_changes row i goal vs m =
 
 pub step_changes : (i : Inst) (goal choice : ℕ) (words : List ℕ) (m : Machine) → HoldsAfter (ChangesOnly (IsHitByOne (destinations_of i m (inst_row i))) m) (row_step i goal choice words m)
 step_changes i goal choice words m = row_changes (inst_row i) i goal (values_of i.width (read_in i choice words m) (inst_row i)) m
+
+-- the first law for a call that steps: a fault leaves the state before
+pub call_changes : (May : Component → Type 0) (end : StepEnd) (s : Stepped) (before after : Machine) → HoldsAfter (ChangesOnly May before) s → IsStepOf end s before after → ChangesOnly May before after
+call_changes May end (Stepped.Moved next) before after h is = subst (ChangesOnly May before) (sym is.1) h
+call_changes May end (Stepped.MovedOutside next) before after h is = subst (ChangesOnly May before) (sym is.1) h
+call_changes May end Stepped.Ended before after h is = absurd h
+call_changes May end (Stepped.Faulted fault) before after h is = record { components = λ c missed. ap (component_in c) is.1; layouts = ap (λ (m : Machine). layouts_of m.ranges) is.1 }

@@ -1,7 +1,7 @@
 -- What a line reads, writes, names and uses, and the accesses it makes, whatever the state: from the micro-operations of its
 -- row. What is known before any state, as a count that is a number, is computed; of a choice whose test is known the chosen
 -- branch alone counts.
-use Rattle.std.specs.Prelude.{ℕ, ◌+◌, ◌*◌, ◌/◌, ◌^◌, ◌==◌, ◌||◌, not, pos, List, [], ◌∷◌, ◌++◌, map, filter, Bool, true, false, Option, None, Some, slice_get, slice_index_or, if◌then◌else◌, bit_or}
+use Rattle.std.specs.Prelude.{ℕ, ◌+◌, ◌*◌, ◌/◌, ◌^◌, ◌==◌, ◌||◌, not, pos, List, [], ◌∷◌, ◌++◌, map, filter, Bool, true, false, Option, None, Some, slice_get, slice_index_or, min, if◌then◌else◌, bit_or}
 use Rattle.std.specs.List.{filter_map}
 use Rattle.std.specs.Int.{bit_at}
 use Rattle.asm_core.specs.Reg.{reg_number}
@@ -42,8 +42,8 @@ slice_number Slice.All = 3
 
 -- the place of an origin in their order
 abbrev pub origin_rank : Origin → ℕ
-origin_rank (Origin.Argument k) = 2 * k
-origin_rank (Origin.Address k) = 2 * k + 1
+origin_rank (Origin.Argument k) = 2 * min k 2
+origin_rank (Origin.Address k) = 2 * min k 2 + 1
 origin_rank (Origin.Pointed r) = 6 + reg_number r
 origin_rank (Origin.Register r slice) = 13 + 4 * reg_number r + slice_number slice
 origin_rank (Origin.Flag f) = 41 + flag_number f
@@ -107,12 +107,19 @@ fact_for w known fs (Input.Earlier k) = fact_in fs k
 fact_for w known fs (Input.Number n) = record { known = Some n; names = 0 }
 fact_for w known fs x = record { known = known x; names = named_alone (input_origin w x) }
 
--- a value is known where its inputs are; that a count is below 32 is known of every count
+-- what is true of every count: it is below 32
+abbrev pub is_sure : Function → Width → Bool
+is_sure Function.CountBelowWidth Width.L = true
+is_sure Function.CountTurns Width.L = true
+is_sure f w = false
+
+abbrev pub value_if_known : Function → Width → Option ℕ → Option ℕ → Option ℕ → Option ℕ
+value_if_known f w (Some x) (Some y) (Some z) = Some (value_of f w x y z)
+value_if_known f w x y z = None
+
+-- a value is known where its inputs are, and a test of a count where it is true of every count
 abbrev pub known_from : Function → Width → Option ℕ → Option ℕ → Option ℕ → Option ℕ
-known_from Function.CountBelowWidth Width.L x y z = Some 1
-known_from Function.CountTurns Width.L x y z = Some 1
-known_from f w (Some x) (Some y) (Some z) = Some (value_of f w x y z)
-known_from f w x y z = None
+known_from f w x y z = if is_sure f w then Some 1 else value_if_known f w x y z
 
 abbrev pub names_of_three : Fact → Fact → Fact → ℕ
 names_of_three x y z = bit_or x.names (bit_or y.names z.names)
@@ -159,9 +166,13 @@ register_arg_of r slice = Arg.Register (Place.Reg r) slice
 abbrev pub pointed_arg : Reg → Arg
 pointed_arg r = Arg.Address (Disp.Number (pos 0)) (Some (Place.Reg r)) None
 
+abbrev arg_or_zero : Option Arg → Arg
+arg_or_zero (Some arg) = arg
+arg_or_zero None = Arg.Number (pos 0)
+
 -- the k-th operand of a line
 abbrev pub line_arg : Sym → ℕ → Arg
-line_arg s k = slice_index_or s.args k (Arg.Number (pos 0))
+line_arg s k = arg_or_zero (slice_get s.args k)
 
 abbrev pub source_in : Sym → Origin → Source
 source_in s (Origin.Argument k) = Source.Arg (line_arg s k)
@@ -180,10 +191,10 @@ has_name names o = bit_at names (origin_rank o) == 1
 abbrev pub sources_of : Sym → ℕ → List Source
 sources_of s names = map (source_in s) (filter (has_name names) origins)
 
--- what the values with such targets name together, from the k-th on
-abbrev pub names_where : (Target → Bool) → List MicroOp → ℕ → List Fact → ℕ
-names_where kind [] k fs = 0
-names_where kind (op ∷ ops) k fs = bit_or (if kind op.target then (fact_in fs k).names else 0) (names_where kind ops (k + 1) fs)
+-- these names, and what the values from the k-th on with such targets name
+abbrev pub names_where : (Target → Bool) → List MicroOp → ℕ → List Fact → ℕ → ℕ
+names_where kind [] k fs names = names
+names_where kind (op ∷ ops) k fs names = names_where kind ops (k + 1) fs (if kind op.target then bit_or names (fact_in fs k).names else names)
 
 abbrev pub is_control : Target → Bool
 is_control Target.Jump = true
@@ -202,10 +213,10 @@ abbrev pub is_of_use : Target → Bool
 is_of_use target = is_control target || is_write target
 
 abbrev pub uses_of : List MicroOp → Sym → List Source
-uses_of row s = sources_of s (names_where is_control row 0 (line_facts row s))
+uses_of row s = sources_of s (names_where is_control row 0 (line_facts row s) 0)
 
 abbrev pub reads_of : List MicroOp → Sym → List Source
-reads_of row s = sources_of s (names_where is_of_use row 0 (line_facts row s))
+reads_of row s = sources_of s (names_where is_of_use row 0 (line_facts row s) 0)
 
 -- ---- writes
 
@@ -274,13 +285,13 @@ named_of row s k = named_by row s (slice_get (write_numbers row 0) k)
 
 -- ---- accesses
 
+abbrev pub site_count : Width → Site → ℕ
+site_count w (Site.Argument k bytes) = count_of w bytes
+site_count w site = bits_of w / 8
+
 -- how many bytes of the origin a site has
 abbrev pub count_at : Width → Origin → Site → Option ℕ
-count_at w o site = if origin_rank (site_origin w site) == origin_rank o then Some (site_count site) else None
-  where
-    site_count : Site → ℕ
-    site_count (Site.Argument k bytes) = count_of w bytes
-    site_count site = bits_of w / 8
+count_at w o site = if origin_rank (site_origin w site) == origin_rank o then Some (site_count w site) else None
 
 abbrev pub or_else : Option ℕ → Option ℕ → Option ℕ
 or_else (Some n) other = Some n
@@ -301,14 +312,13 @@ target_store w o target = touched w o target
 abbrev pub op_load : Width → Origin → MicroOp → Option ℕ
 op_load w o op = or_else (touched w o op.target) (or_else (input_load w o op.x) (or_else (input_load w o op.y) (input_load w o op.z)))
 
--- how many bytes of an origin a row loads, and how many it stores; none where it doesn't
-abbrev pub row_load : Width → Origin → List MicroOp → Option ℕ
-row_load w o [] = None
-row_load w o (op ∷ ops) = or_else (op_load w o op) (row_load w o ops)
+-- how many bytes of an origin a micro-operation, or a row, stores or else loads; none where it doesn't
+abbrev pub op_access : Bool → Width → Origin → MicroOp → Option ℕ
+op_access store w o op = if store then target_store w o op.target else op_load w o op
 
-abbrev pub row_store : Width → Origin → List MicroOp → Option ℕ
-row_store w o [] = None
-row_store w o (op ∷ ops) = or_else (target_store w o op.target) (row_store w o ops)
+abbrev pub row_access : Bool → Width → Origin → List MicroOp → Option ℕ
+row_access store w o [] = None
+row_access store w o (op ∷ ops) = or_else (op_access store w o op) (row_access store w o ops)
 
 -- an operand of a line that is memory
 abbrev pub memory_arg : Arg → Option Arg
@@ -326,12 +336,9 @@ abbrev pub access_by : Bool → Option ℕ → Option Arg → Option Access
 access_by store (Some bytes) (Some memory) = Some (record { to = memory; bytes = bytes; store = store })
 access_by store bytes memory = None
 
-abbrev pub load_at : List MicroOp → Sym → Origin → Option Access
-load_at row s o = access_by false (row_load s.width o row) (memory_in s o)
-
-abbrev pub store_at : List MicroOp → Sym → Origin → Option Access
-store_at row s o = access_by true (row_store s.width o row) (memory_in s o)
+abbrev pub access_at : Bool → List MicroOp → Sym → Origin → Option Access
+access_at store row s o = access_by store (row_access store s.width o row) (memory_in s o)
 
 -- the line's accesses, loads before stores
 abbrev pub accesses_of : List MicroOp → Sym → List Access
-accesses_of row s = filter_map (load_at row s) origins ++ filter_map (store_at row s) origins
+accesses_of row s = filter_map (access_at false row s) origins ++ filter_map (access_at true row s) origins

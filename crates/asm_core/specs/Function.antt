@@ -53,7 +53,7 @@ difference_overflow_of m x y z = differ (sign_of m x) (sign_of m y) * differ (si
 
 -- ---- products and quotients
 
--- a signed number of the width m as one of its square's width
+-- a signed number below m as one below its square
 abbrev pub extended : ℕ → ℕ → ℕ
 extended m x = x % m + sign_of m x * (m * m - m)
 
@@ -68,8 +68,12 @@ magnitude_of m x = if sign_of m x == 0 then x % m else m - x % m
 abbrev pub with_sign : ℕ → ℕ → ℕ → ℕ
 with_sign m sign size = if sign == 0 then size % m else (m - size % m) % m
 
+-- the size of the signed dividend, whose sign is that of its high half
+abbrev pub dividend_size : ℕ → ℕ → ℕ → ℕ
+dividend_size m high low = if sign_of m high == 0 then dividend_of m high low else m * m - dividend_of m high low
+
 abbrev pub signed_quotient_size : ℕ → ℕ → ℕ → ℕ → ℕ
-signed_quotient_size m x y z = magnitude_of (m * m) (dividend_of m x y) / magnitude_of m z
+signed_quotient_size m x y z = dividend_size m x y / magnitude_of m z
 
 -- ---- shifts
 
@@ -110,15 +114,17 @@ value_of Function.Or w x y z = bit_or (x % modulus_of w) (y % modulus_of w)
 value_of Function.Xor w x y z = bit_xor (x % modulus_of w) (y % modulus_of w)
 value_of Function.Not w x y z = modulus_of w - 1 - x % modulus_of w
 value_of Function.ProductLow w x y z = x % modulus_of w * (y % modulus_of w) % modulus_of w
-value_of Function.ProductHigh w x y z = x % modulus_of w * (y % modulus_of w) / modulus_of w
+value_of Function.ProductHigh w x y z = x % modulus_of w * (y % modulus_of w) / modulus_of w % modulus_of w
 value_of Function.SignedProductHigh w x y z = extended (modulus_of w) x * extended (modulus_of w) y / modulus_of w % modulus_of w
-value_of Function.Quotient w x y z = dividend_of (modulus_of w) x y / (z % modulus_of w) % modulus_of w
-value_of Function.Remainder w x y z = dividend_of (modulus_of w) x y % (z % modulus_of w) % modulus_of w
+value_of Function.Quotient w x y z = if z % modulus_of w == 0 then 0 else dividend_of (modulus_of w) x y / (z % modulus_of w) % modulus_of w
+value_of Function.Remainder w x y z = if z % modulus_of w == 0 then 0 else dividend_of (modulus_of w) x y % (z % modulus_of w) % modulus_of w
 value_of Function.QuotientOverflow w x y z = if nat_lt (x % modulus_of w) (z % modulus_of w) then 0 else 1
 value_of Function.SignedQuotient w x y z =
-    with_sign (modulus_of w) (differ (sign_of (modulus_of w) x) (sign_of (modulus_of w) z)) (signed_quotient_size (modulus_of w) x y z)
+    if z % modulus_of w == 0 then 0
+    else with_sign (modulus_of w) (differ (sign_of (modulus_of w) x) (sign_of (modulus_of w) z)) (signed_quotient_size (modulus_of w) x y z)
 value_of Function.SignedRemainder w x y z =
-    with_sign (modulus_of w) (sign_of (modulus_of w) x) (magnitude_of (modulus_of w * modulus_of w) (dividend_of (modulus_of w) x y) % magnitude_of (modulus_of w) z)
+    if z % modulus_of w == 0 then 0
+    else with_sign (modulus_of w) (sign_of (modulus_of w) x) (dividend_size (modulus_of w) x y % magnitude_of (modulus_of w) z)
 value_of Function.SignedQuotientOverflow w x y z =
     if z % modulus_of w == 0 then 1
     else if nat_lt (signed_quotient_size (modulus_of w) x y z) (modulus_of w / 2 + differ (sign_of (modulus_of w) x) (sign_of (modulus_of w) z)) then 0

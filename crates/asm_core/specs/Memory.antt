@@ -13,12 +13,12 @@ abbrev pub modulo : ℤ → ℕ → ℕ
 modulo (pos n) bits = n % 2 ^ bits
 modulo (negsuc n) bits = 2 ^ bits - 1 - n % 2 ^ bits
 
-abbrev base_in : Option Base → Machine → ℕ
+abbrev pub base_in : Option Base → Machine → ℕ
 base_in None m = 0
 base_in (Some Base.Esp) m = m.esp
 base_in (Some (Base.Reg r)) m = reg_in r m
 
-abbrev index_in : Option (Reg × ℕ) → Machine → ℕ
+abbrev pub index_in : Option (Reg × ℕ) → Machine → ℕ
 index_in None m = 0
 index_in (Some x) m = reg_in x.0 m * x.1
 

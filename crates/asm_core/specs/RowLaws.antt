@@ -1,12 +1,21 @@
 -- What holds of the steps of every row, whatever its micro-operations are.
-use Rattle.std.specs.Prelude.{◌≡◌, ◌⊎◌, ℕ, zero, suc, ◌+◌, ◌*◌, ◌/◌, ◌%◌, ◌^◌, ◌<◌, ◌≤◌, List, [], ◌∷◌, slice_index}
+use Rattle.std.specs.Prelude.{◌≡◌, ◌⊎◌, ℕ, zero, suc, ◌+◌, ◌*◌, ◌/◌, ◌%◌, ◌^◌, ◌<◌, ◌≤◌, List, [], ◌∷◌, slice_index, Option, Some}
+use Rattle.std.specs.Int.{bit_at}
+use Rattle.asm_core.specs.Entries.{origin_rank, input_origin, fact_in, facts_of, names_where, is_control, known_in}
 use Rattle.asm_core.specs.Function.{bit}
 use Rattle.asm_core.specs.Flag.{flag_in}
 use Rattle.asm_core.specs.Machine.{reg_in, byte_at, layouts_of}
-use Rattle.asm_core.specs.MicroOps.{Stepped, first_of, count_of}
+use Rattle.asm_core.specs.MicroOps.{Stepped, first_of, count_of, values_of, read_in, is_over, divides, next_of, destinations_of}
+use Rattle.asm_core.specs.Reading.{instance_of}
 use Rattle.asm_core.specs.declared.reg.Reg.{Reg}
 use Rattle.asm_core.specs.declared.flag.Flag.{Flag}
 use Rattle.asm_core.specs.declared.inst.Width.{Width}
+use Rattle.asm_core.specs.declared.inst.Inst.{Inst}
+use Rattle.asm_core.specs.declared.sym.Sym.{Sym}
+use Rattle.asm_core.specs.declared.placement.Placement.{Placement}
+use Rattle.asm_core.specs.declared.micro_op.MicroOp.{MicroOp}
+use Rattle.asm_core.specs.declared.micro_op.Input.{Input}
+use Rattle.asm_core.specs.declared.micro_op.Origin.{Origin}
 use Rattle.asm_core.specs.declared.micro_op.Destination.{Destination}
 use Rattle.asm_core.specs.declared.machine.Machine.{Machine}
 
@@ -76,3 +85,31 @@ IsHit destination c = ⊥
 abbrev pub IsHitByOne : List Destination → Component → Type 0
 IsHitByOne [] c = ⊥
 IsHitByOne (d ∷ ds) c = IsHit d c ⊎ IsHitByOne ds c
+
+-- ---- what is named decides
+
+-- the readings agree on all inputs whose origin is among the names
+pub record AgreesOn (w : Width) (env env' : Input → ℕ) (names : ℕ) : Type 0 where
+  pub same : (x : Input) (o : Origin) → input_origin w x ≡ Some o → bit_at names (origin_rank o) ≡ 1 → env x ≡ env' x
+
+-- the reading gives what is known before any state
+pub record Knows (known : Input → Option ℕ) (env : Input → ℕ) : Type 0 where
+  pub is : (x : Input) (n : ℕ) → known x ≡ Some n → env x ≡ n
+
+-- Two readings that give what is known agree on a value where they agree on what it names. Where they agree on what the values
+-- name that say how a step goes on, they say it alike.
+pub record NamesDecide (row : List MicroOp) (w : Width) (known : Input → Option ℕ) : Type 0 where
+  pub values : (env env' : Input → ℕ) (k : ℕ) → Knows known env → Knows known env' → AgreesOn w env env' (fact_in (facts_of w known row) k).names
+      → slice_index (values_of w env row) k ≡ slice_index (values_of w env' row) k
+  pub ends : (env env' : Input → ℕ) → Knows known env → Knows known env' → AgreesOn w env env' (names_where is_control row 0 (facts_of w known row) 0)
+      → (is_over row (values_of w env row) ≡ is_over row (values_of w env' row))
+      × (divides row (values_of w env row) ≡ divides row (values_of w env' row))
+      × ((goal at : ℕ) → next_of row (values_of w env row) goal at ≡ next_of row (values_of w env' row) goal at)
+
+-- Beside the position a step changes only what is at its destinations.
+abbrev pub ChangesDestinations : List MicroOp → Inst → Machine → Machine → Type 0
+ChangesDestinations row i before after = ChangesOnly (IsHitByOne (destinations_of i before row)) before after
+
+-- before any state, a line's numbers are known: a placed line reads them so
+pub record ReadsKnown (p : Placement) (s : Sym) : Type 0 where
+  pub each : (choice : ℕ) (words : List ℕ) (m : Machine) → Knows (known_in s) (read_in (instance_of p s) choice words m)

@@ -1,5 +1,5 @@
-ghost use Rattle.std.specs.Prelude.{⊤, ◌≡◌, [], ◌∷◌, codes, Some};
-ghost use Rattle.asm_core.specs.Flag.{flag_name};
+ghost use Rattle.std.specs.Prelude.{⊤, ◌≡◌, ◌^◌, [], ◌∷◌, codes, Some};
+ghost use Rattle.asm_core.specs.Flag.{flag_name, flag_number, flag_in, with_flag};
 
 use bitflags::{Flags, bitflag_items};
 use std::fmt;
@@ -35,6 +35,49 @@ impl fmt::Display for Flag {
 /// A set of flags, and the flags of a machine that are 1. Bit n is the n-th `Flag`.
 #[derive(Clone, Copy, Debug, PartialEq, Eq)]
 pub struct FlagSet(u8);
+
+impl Flag {
+    /// 2 to the place of the flag in their order.
+    pub fn weight(self) -> u8
+        ensures { result ≡ 2 ^ flag_number self }
+    {
+        match self {
+            Flag::Cf => 1,
+            Flag::Pf => 2,
+            Flag::Af => 4,
+            Flag::Zf => 8,
+            Flag::Sf => 16,
+            Flag::Of => 32,
+            Flag::Df => 64,
+        }
+    }
+}
+
+impl FlagSet {
+    /// Whether the flag is 1.
+    pub fn has(self, flag: Flag) -> bool
+        ensures { result ≡ flag_in flag self }
+    {
+        self.0 / flag.weight() % 2 == 1
+    }
+
+    /// The set with the flag as the lowest bit of the value.
+    pub fn with(self, flag: Flag, value: u64) -> FlagSet
+        ensures { result ≡ with_flag flag value self }
+    {
+        let bit = (value % 2) as u8;
+        let bits = self.0;
+        FlagSet(match flag {
+            Flag::Cf => bits / 2 * 2 + bit,
+            Flag::Pf => bits / 4 * 4 + bit * 2 + bits % 2,
+            Flag::Af => bits / 8 * 8 + bit * 4 + bits % 4,
+            Flag::Zf => bits / 16 * 16 + bit * 8 + bits % 8,
+            Flag::Sf => bits / 32 * 32 + bit * 16 + bits % 16,
+            Flag::Of => bits / 64 * 64 + bit * 32 + bits % 32,
+            Flag::Df => bits / 128 * 128 + bit * 64 + bits % 64,
+        })
+    }
+}
 
 bitflag_items! {
     impl FlagSet: u8 {

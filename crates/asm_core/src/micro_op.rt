@@ -205,6 +205,21 @@ pub enum Destination {
     Pop(u32),
 }
 
+impl Default for Destination {
+    fn default() -> Self {
+        Destination::Nowhere
+    }
+}
+
+impl Default for Fact {
+    fn default() -> Self {
+        Fact {
+            known: None,
+            names: 0,
+        }
+    }
+}
+
 /// What a row can name, with all its bytes. The order is that of `specs/Entries`.
 #[derive(Clone, Copy, Debug, PartialEq, Eq)]
 pub enum Origin {

@@ -1,5 +1,23 @@
-//! What a row of micro-operations does to a machine, and what it reads, writes and names: once for all instructions.
+//! What a row of micro-operations does to a machine, and what it reads, writes and names: once for all instructions. An
+//! instruction family is its rows, and calls these functions on them.
 #![tactic(auto)]
 
+mod accesses;
+mod arithmetic;
+mod bits;
+mod entries;
 mod example;
+mod fact;
+mod function;
+mod memory;
+mod part;
+mod product;
+mod quotient;
+mod shift;
+mod state;
+mod stepper;
 pub mod terms;
+
+pub use accesses::access;
+pub use entries::{named, reads, uses, writes};
+pub use stepper::{Line, MOST, step};
