@@ -2,7 +2,7 @@
 use Rattle.std.proofs.Common.{◌≡◌, ℕ, pos, negsuc, List, [], ◌∷◌, ◌++◌, map, true, false, Option, None, Some, Result, Ok, Err, codes, refl, ◌<◌, arith}
 use Rattle.std.proofs.lemmas.Fmt.{decimal_digit}
 use Rattle.asm_core.specs.Reg.{no_regs}
-use Rattle.asm_core.specs.Interface.{any_register}
+use Rattle.asm_core.proofs.Examples.Shapes.{any_register}
 use Rattle.asm_core.specs.Expansion.{printed}
 use Rattle.asm_core.specs.Reading.Names.{names}
 use Rattle.asm_core.specs.Reading.Chosen.{choice_of}
