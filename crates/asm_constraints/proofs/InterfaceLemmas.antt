@@ -1,12 +1,12 @@
 -- What the definition gives keeps what every interface keeps.
-use Rattle.std.proofs.Common.{◌≡◌, ℕ, ◌+◌, ◌≤◌, List, [], ◌∷◌, ◌++◌, map, length, length-append, Bool, false, Option, None, Some, Result, Ok, Err, count_by, slice_get, IfOk, refl, sym, ◌∙◌, ap, subst, zero-add, arith}
+use Rattle.std.proofs.Common.{◌≡◌, ℕ, ◌+◌, List, [], ◌∷◌, ◌++◌, length, length-append, Bool, false, Option, None, Some, Result, Ok, Err, slice_get, IfOk, refl, sym, ◌∙◌, subst, zero-add, arith}
 use Rattle.std.specs.List.{filter}
 use Rattle.std.proofs.lemmas.List.{length-map}
-use Rattle.asm_core.specs.Parts.{is_in_out, operand_count, IsParts}
+use Rattle.asm_core.specs.Parts.{IsParts}
 use Rattle.asm_core.specs.Constraint.{name_of, names_of, constrained_operands}
 use Rattle.asm_core.specs.Malformed.{is_malformed, malformed_operand, missing_findings, malformed_findings}
 use Rattle.asm_core.specs.Pieces.{Scan, Outside, Scanned, scan_of}
-use Rattle.asm_core.specs.Interface.{made_of, first_mark, template_scan, unless_malformed, scanned_interface, unless_marked, interface_in, interface_of}
+use Rattle.asm_core.specs.Interface.{made_of, first_mark, template_scan, unless_malformed, scanned_interface, unless_marked, interface_of}
 use Rattle.asm_core.specs.WellFormed.{IsInterface}
 use Rattle.asm_core.specs.declared.mark.Mark.{Mark}
 use Rattle.asm_core.specs.declared.piece.Piece.{Piece}

@@ -1,6 +1,6 @@
 -- The operands of what is left of the parts.
-use Rattle.std.proofs.Common.{◌≡◌, ℕ, zero, suc, ◌+◌, ◌<◌, ◌≤◌, List, [], ◌∷◌, ◌++◌, map, length, take, drop, get_or, Option, refl, sym, ◌∙◌, ap, subst, append_assoc, length-append, add-zero, zero-add, arith}
-use Rattle.std.proofs.lemmas.List.{append-nil, drop_more, drop_all, length-map, take_at}
+use Rattle.std.proofs.Common.{◌≡◌, ℕ, suc, ◌+◌, ◌<◌, ◌≤◌, List, [], ◌∷◌, ◌++◌, length, take, drop, get_or, Option, refl, sym, ◌∙◌, ap, append_assoc, length-append, add-zero, zero-add, arith}
+use Rattle.std.proofs.lemmas.List.{append-nil, drop_more, drop_all}
 use Rattle.asm_core.specs.Lists.{optional_at}
 use Rattle.asm_core.specs.Constraint.{constrained_operand, constrained_from, name_of, names_of, constrained_operands}
 use Rattle.asm_core.specs.declared.operand.Operand.{Operand}

@@ -1,5 +1,5 @@
 -- Every range of numbers has 0, and one that is kept has the known number.
-use Rattle.std.proofs.Common.{◌≡◌, ℕ, ◌==◌, ℤ, pos, negsuc, ◌≤ℤ◌, int_lt, ◌||◌, not, List, [], ◌∷◌, Bool, true, false, cond, Option, Some, None, fold, if◌then◌else◌, refl, sym, subst, arith}
+use Rattle.std.proofs.Common.{◌≡◌, ℕ, ◌==◌, ℤ, pos, negsuc, ◌≤ℤ◌, int_lt, List, [], ◌∷◌, Bool, true, false, cond, Option, Some, None, fold, if◌then◌else◌, refl, subst, arith}
 use borrow.Author.Tests.{tests}
 use Rattle.std.specs.Int.{int_min, int_max}
 use Rattle.std.proofs.lemmas.Int.{ints}

@@ -1,7 +1,7 @@
 -- An interface keeps what every interface keeps.
-use Rattle.std.proofs.Common.{◌≡◌, ◌⊎◌, inl, inr, ℕ, zero, suc, ◌+◌, ◌<◌, ◌≤◌, ◌==◌, ◌&&◌, ◌||◌, not, nat_lt, ℤ, pos, ◌≤ℤ◌, List, [], ◌∷◌, ◌++◌, map, length, Bool, true, false, IsTrue, Option, None, Some, is_some, is_none, option_map, slice_get, if◌then◌else◌, refl, sym, ◌∙◌, ap, subst, eq-eqb, arith}
-use Rattle.std.specs.List.{list_any, find, filter}
-use Rattle.std.proofs.lemmas.Bool.{ltb-true, ltb-false, lt-ltb}
+use Rattle.std.proofs.Common.{◌≡◌, ◌⊎◌, inl, inr, ℕ, ◌<◌, ◌≤◌, ◌==◌, ◌&&◌, not, ℤ, pos, ◌≤ℤ◌, List, length, Bool, true, false, Option, None, Some, is_some, is_none, option_map, slice_get, if◌then◌else◌, refl, sym, ◌∙◌, ap, subst, eq-eqb, arith}
+use Rattle.std.specs.List.{list_any, find}
+use Rattle.std.proofs.lemmas.Bool.{ltb-false, lt-ltb}
 use Rattle.std.proofs.lemmas.Bool.Decides.{nat_tests}
 use Rattle.std.proofs.lemmas.List.{length-map, length-replicate}
 use Rattle.std.proofs.lemmas.Int.{ints}
@@ -9,7 +9,7 @@ use Rattle.std.proofs.lemmas.Option.{slice_get_within, slice_get-map}
 use Rattle.asm_core.specs.Lists.{optional_at}
 use Rattle.asm_core.specs.Constraint.{is_signed, all_symbols}
 use Rattle.asm_core.specs.Placement.{is_output}
-use Rattle.asm_core.specs.Malformed.{is_early, is_output_mark, is_sign, is_unsigned_output, is_marked_input, has_own_alternatives, count_of, alternative_count, differs_in_count, is_numbered, is_odd_one, is_stray_tie, has_stray_tie, is_malformed}
+use Rattle.asm_core.specs.Malformed.{is_early, is_output_mark, is_sign, is_unsigned_output, is_marked_input, alternative_count, differs_in_count, is_numbered, is_odd_one, is_stray_tie, has_stray_tie, is_malformed}
 use Rattle.asm_core.specs.Interface.{symbol_tie, tie_in, is_tied_symbol, tie_of, alternative_of, flag_alternative, size_or_zero, known_in, flag_operand, placed_operand, operand_of, made_of}
 use Rattle.asm_core.specs.Size.{sizes_of}
 use Rattle.asm_core.specs.WellFormed.{HasAlternative, IsUntiedOutput, IsTie, HasNumber, IsInterface}

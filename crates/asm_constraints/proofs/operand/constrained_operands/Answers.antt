@@ -1,4 +1,4 @@
-use Rattle.std.proofs.Common.{◌≡◌, length, take, refl, ap, arith}
+use Rattle.std.proofs.Common.{length, refl, ap, arith}
 use Rattle.asm_constraints.proofs.OperandLemmas.{length-first, operands-both}
 use Rattle.asm_constraints.proofs.operand.constrained_operands.Goals as goal
 
