@@ -233,10 +233,11 @@ names_decide row w known = record { values = λ env env' k knows knows' h. named
         × ((goal at : ℕ) → next_of row (values_of w env row) goal at ≡ next_of row (values_of w env' row) goal at)
     ends env env' knows knows' h =
         let alike : (kind : Target → Bool) (test : ℕ → Bool) → ((t : Target) → kind t ≡ true → is_control t ≡ true) → any_value kind test row 0 (values_of w env row) ≡ any_value kind test row 0 (values_of w env' row) =
-        λ kind test more. tested_alike w env env' (facts_of w known row) (values_of w env row) (values_of w env' row) (λ k a. named_values w env env' known knows knows' row k a) kind is_control test more row 0 0 h in
-        (alike is_turn is_zero turn_is_control,
-        alike is_divide is_set divide_is_control,
-        λ goal at. ap₂ (λ (jump stay : Bool). if jump then goal else if stay then at else at + 1) (alike is_jump is_set jump_is_control) (alike is_stay is_set stay_is_control))
+        λ kind test more. tested_alike w env env' (facts_of w known row) (values_of w env row) (values_of w env' row) (λ k a. named_values w env env' known knows knows' row k a) kind is_control test more row 0 0 h in (
+          alike is_turn is_zero turn_is_control,
+          alike is_divide is_set divide_is_control,
+          λ goal at. ap₂ (λ (jump stay : Bool). if jump then goal else if stay then at else at + 1) (alike is_jump is_set jump_is_control) (alike is_stay is_set stay_is_control),
+        )
 
 -- a line's numbers are read as they are known
 pub reads_known : (p : Placement) (s : Sym) → length s.args ≤ 3 → ReadsKnown p s

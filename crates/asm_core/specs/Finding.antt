@@ -7,7 +7,6 @@ use Rattle.asm_core.specs.declared.finding.Rule.TheVariants.{W1, W2, W3, W4, M1,
 use Rattle.asm_core.specs.declared.finding.Cell.{Cell}
 use Rattle.asm_core.specs.declared.finding.Cell.TheVariants
 use Rattle.asm_core.specs.declared.finding.Finding.{Finding}
-use Rattle.asm_core.specs.declared.finding.TheConstants.{END_LINE}
 
 abbrev pub rule_name : Rule → List ℕ
 rule_name W1 = codes "W1"
@@ -63,7 +62,7 @@ cell_name TheVariants.Nothing = codes "-"
 
 -- an instruction by its number, the end by its name
 abbrev pub line_name : ℕ → List ℕ
-line_name line = if line == 0 then codes "-" else (if line == END_LINE then codes "end" else decimal line)
+line_name line = if line == 0 then codes "-" else (if line == 513 then codes "end" else decimal line)
 
 -- as `W2 at end: %0 -`
 abbrev pub finding_text : Finding → List ℕ

@@ -11,7 +11,6 @@ use Rattle.asm_core.specs.declared.interface.Interface.{Interface}
 use Rattle.asm_core.specs.declared.finding.Rule.{Rule}
 use Rattle.asm_core.specs.declared.finding.Cell.{Cell}
 use Rattle.asm_core.specs.declared.finding.Finding.{Finding}
-use Rattle.asm_core.specs.declared.finding.TheConstants.{END_LINE}
 use Rattle.blk_check.specs.FirstForm.{source_in, is_operand, is_mov}
 
 -- a place holds the value that operand k has at the entry, or another one
@@ -51,7 +50,7 @@ is_input_alone (Some o) = elim o.role [ Role.In ↦ true | _ ↦ false ]
 
 -- the rule is broken at the end
 abbrev pub at_end : Rule → Cell → Finding
-at_end rule cell = record { rule = rule; line = END_LINE; cell = cell; other = Cell.Nothing }
+at_end rule cell = record { rule = rule; line = 513; cell = cell; other = Cell.Nothing }
 
 abbrev pub finding_if : Bool → Finding → List Finding
 finding_if broken finding = if broken then finding ∷ [] else []

@@ -6,7 +6,6 @@ ghost use Rattle.c_tokens.specs.Cut.{IsOrdered};
 ghost use Rattle.c_words.specs.File.{file_of};
 ghost use Rattle.c_exprs.specs.Operands.{begins_before, operand_at, operand_from, operand_of, token_from};
 
-
 use asm_core::{Memory, Operand, Span};
 use c_reader::{Level, Reader, Typed};
 use c_scopes::Scopes;

@@ -98,8 +98,20 @@ fn operands(
     ensures { IfOk result (λ operands. operands ≡ operands_of source.now scopes.now parts.now) }
 {
     let mut operands = Items::new(alloc);
-    append_operands(alloc, source, scopes, &mut operands, parts.outputs.as_slice())?;
-    append_operands(alloc, source, scopes, &mut operands, parts.inputs.as_slice())?;
+    append_operands(
+        alloc,
+        source,
+        scopes,
+        &mut operands,
+        parts.outputs.as_slice(),
+    )?;
+    append_operands(
+        alloc,
+        source,
+        scopes,
+        &mut operands,
+        parts.inputs.as_slice(),
+    )?;
     Ok(operands)
 }
 
