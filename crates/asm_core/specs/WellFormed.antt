@@ -33,7 +33,6 @@ pub record HasNumber (o : OperandIface) (alt : AltIface) (range : ℤ × ℤ) : 
 pub record IsInterface (i : Interface) : Type 0 where
   pub few : length i.operands ≤ 30
   pub counts : (k j : ℕ) (o q : OperandIface) → slice_get i.operands k ≡ Some o → slice_get i.operands j ≡ Some q → length o.alts ≡ length q.alts
-  pub alternatives : (k : ℕ) (o : OperandIface) → slice_get i.operands k ≡ Some o → length o.alts < 4294967296
   pub ties : (k a output : ℕ) (o : OperandIface) (alt : AltIface) → HasAlternative i k a o alt → alt.tied ≡ Some output → IsTie i k a output o alt
   pub early : (k a : ℕ) (o : OperandIface) (alt : AltIface) → HasAlternative i k a o alt → IsTrue alt.early → IsTrue (is_output o.role)
   pub numbers : (k a : ℕ) (o : OperandIface) (alt : AltIface) (range : ℤ × ℤ) → HasAlternative i k a o alt → alt.numbers ≡ Some range → HasNumber o alt range

@@ -262,13 +262,5 @@ no_shapes i interface a below none =
     no_items [] h = refl
     no_items (x ∷ xs) h = absurd (omega arith)
 
--- the number of an alternative fits
-pub alternative_below : (i : Interface) → IsInterface i → (a : ℕ) → a < length (alternatives_of i) → a < 4294967296
-alternative_below i interface a below = by_first (slice_get i.operands 0) refl
-  where
-    by_first : (o : Option OperandIface) → slice_get i.operands 0 ≡ o → a < 4294967296
-    by_first None e = let one = alternatives_none i e in omega arith
-    by_first (Some o) e = let many = alternatives_some i o e in let few = interface.alternatives 0 o e in omega arith
-
 pub cut_sum : (count added before more total sum : ℕ) → sum ≡ min (count + added) 65 → count ≡ min 65 before → added ≡ min 65 more → total ≡ before + more → sum ≡ min 65 total
 cut_sum count added before more total sum e f g h = omega arith

@@ -151,6 +151,10 @@ fn push_alternative(
     if list_count(i, a) == 0 {
         return Ok(());
     }
+    // A list of so many alternatives can't be had: their numbers count as want of memory.
+    if a > 4_294_967_295 {
+        return Err(Memory);
+    }
     let lists = kind_lists(alloc, i, a)?;
     push_shapes(alloc, list, a as u32, lists.as_slice())
 }
