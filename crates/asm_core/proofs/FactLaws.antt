@@ -1,10 +1,10 @@
 -- What a value names decides it: two readings that agree on what is named give equal values.
-use Rattle.std.proofs.Common.{◌≡◌, ◌⊎◌, ⊎_elim, ℕ, zero, suc, ◌+◌, ◌%◌, ◌<◌, ◌==◌, nat_lt, List, [], ◌∷◌, ◌++◌, length, slice_get, slice_index, ◌≤◌, Bool, true, false, if◌then◌else◌, Option, None, Some, bit_or, max, ◌&&◌, ◌||◌, refl, ap, ap₂, sym, subst, ◌∙◌, arith}
+use Rattle.std.proofs.Common.{◌≡◌, ℕ, zero, suc, ◌+◌, ◌%◌, ◌==◌, List, [], ◌∷◌, ◌++◌, length, slice_get, slice_index, ◌≤◌, Bool, true, false, if◌then◌else◌, Option, None, Some, bit_or, ◌&&◌, ◌||◌, refl, ap, ap₂, sym, subst, ◌∙◌, arith}
 use Rattle.std.specs.Int.{bit_at}
 use Rattle.std.proofs.lemmas.Nat.Bits.{bit_at_or, bit_at-lt, bit_at-pow_same}
 use Rattle.std.proofs.lemmas.Bool.{lt-ltb}
 use Rattle.std.proofs.lemmas.Option.{slice_get_past}
-use Rattle.asm_core.specs.Function.{bit, bits_of, shift_count, value_of}
+use Rattle.asm_core.specs.Function.{bit, shift_count, value_of}
 use Rattle.asm_core.specs.MicroOps.{input_of, op_value, values_from, values_of, any_value, is_zero, is_set, is_jump, is_stay, is_turn, is_divide, is_over, divides, next_of, arg_at, read_arg, read_in}
 use Rattle.asm_core.specs.Reading.{placed_at, instance_of}
 use Rattle.asm_core.specs.Entries.{origin_rank, input_origin, named_alone, no_fact, fact_in, fact_for, is_sure, value_if_known, known_from, names_of_three, picked, fact_joined, op_fact, facts_from, facts_of, names_where, is_control, known_number, known_in}

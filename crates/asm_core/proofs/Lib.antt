@@ -4,6 +4,7 @@ pub mod FlagLaws
 pub mod Keeping
 pub mod MachineLaws
 pub mod Puts
+pub mod ReadBack
 pub mod ReadingLaws
 pub mod RegisterLaws
 pub mod Runs

@@ -275,7 +275,7 @@ other_flag_kept Df Df v s apart = absurd (apart refl)
 -- ---- memory
 
 -- the address is in the range as before, and another byte is as before
-put_covers : (a b : ℕ) (r : Range) (address : ℕ) → covers (put_byte a b r) address ≡ covers r address
+pub put_covers : (a b : ℕ) (r : Range) (address : ℕ) → covers (put_byte a b r) address ≡ covers r address
 put_covers a b r address = by_test (covers r a) refl
   where
     by_test : (t : Bool) → covers r a ≡ t → covers (if t then record r { bytes = slice_set r.bytes (a - r.base) b } else r) address ≡ covers r address

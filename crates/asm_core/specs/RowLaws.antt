@@ -45,6 +45,11 @@ byte_of (suc (suc zero)) v = v / 65536 % 256
 byte_of (suc (suc (suc zero))) v = v / 16777216 % 256
 byte_of (suc (suc (suc (suc j)))) v = 0
 
+-- byte o of a value of any size
+abbrev pub nth_byte : ℕ → ℕ → ℕ
+nth_byte zero v = v % 256
+nth_byte (suc o) v = nth_byte o (v / 256)
+
 abbrev pub component_in : Component → Machine → ℕ
 component_in (Component.WholeRegister r) m = reg_in r m
 component_in (Component.RegisterByte r j) m = byte_of j (reg_in r m)
