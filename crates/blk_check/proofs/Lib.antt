@@ -6,4 +6,5 @@ pub mod KnownLaws
 mod Lines
 mod Numbers
 pub mod RoomLaws
+pub mod Unique
 mod VerdictLaws

@@ -3,3 +3,4 @@ mod FrameLaws
 mod JudgementLaws
 mod PageLaws
 mod PrintLaws
+mod Unique

@@ -91,3 +91,7 @@ IsPageOf Status.Usage text name old new = ⊥
 IsPageOf Status.WriteFault text name old new = ⊥
 IsPageOf Status.Memory text name old new = ⊥
 IsPageOf status text name old new = IsTrue old.tells → IsReadAnswer name (old.file name) (answer text status)
+
+-- the words have one answer, whatever the files hold
+abbrev pub HasOneAnswer : (Answer → Type 0) → Type 0
+HasOneAnswer Is = (a b : Answer) → Is a → Is b → a ≡ b

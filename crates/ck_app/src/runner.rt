@@ -5,7 +5,7 @@ ghost use Rattle.ck_ports.specs.Faults.{CountsAt};
 ghost use Rattle.ck_ports.specs.Outside.{SameFiles};
 ghost use Rattle.ck_app.specs.Answer.{IsAnswer, IsReadAnswer};
 ghost use Rattle.ck_app.specs.Words.{check_command, command_of};
-ghost use Rattle.ck_app.specs.Run.{Tells, Prints, HasCause, CountsReads, OkIsFramed, IsPageOf, IsPrinted, is_page_status};
+ghost use Rattle.ck_app.specs.Run.{Tells, Prints, HasOneAnswer, HasCause, CountsReads, OkIsFramed, IsPageOf, IsPrinted, is_page_status};
 
 use crate::Status;
 use crate::judge::{Page, judge};
@@ -29,6 +29,9 @@ pub fn run<F: Files, K: Sink>(alloc: Global, words: &[String], files: &mut F, ou
     ensures prints { Tells (F.outside files.old) (K.written out.old)
         → Prints result (IsAnswer (map string_bytes words.now) (F.outside files.old).file) (command_of (map string_bytes words.now))
         (F.outside files.old) (F.outside files.new) (K.written out.old) (K.written out.new) }
+
+    // There is one answer.
+    ensures one { HasOneAnswer (IsAnswer (map string_bytes words.now) (F.outside files.old).file) }
 
     // Each refusal has its cause, also where nothing is told.
     ensures cause { HasCause result (command_of (map string_bytes words.now))

@@ -1,6 +1,8 @@
-use Rattle.std.proofs.Common.{sym, subst, List, ℕ}
+use Rattle.std.proofs.Common.{sym, subst, List, ℕ, map, string_bytes}
 use Rattle.ck_app.proofs.FrameLaws.{run_is_framed}
+use Rattle.ck_app.proofs.Unique.{one_command_answer}
 use Rattle.ck_app.specs.Run.{IsPrinted}
+use Rattle.ck_app.specs.Words.{command_of}
 use Rattle.ck_app.specs.declared.status.Status.{Status}
 use Rattle.ck_app.proofs.PrintLaws.{usage_prints}
 use Rattle.ck_app.proofs.runner.run.Goals as goal
@@ -14,3 +16,9 @@ returns-in-None-clause-prints g c = λ told.
     let after = g.K.Sink.written c.print.new.out in
     let printed = subst (λ (t : List ℕ). IsPrinted c.print.result Status.Usage t before after) c.as_bytes.ensures.value c.print.ensures.printed in
     usage_prints (g.F.Files.outside c.args.files.now).file _ (g.F.Files.outside c.args.files.now) (g.F.Files.outside c.args.files.now) before after c.print.result (sym c.in-None.ensures) printed told
+
+pub returns-in-Some-clause-one : goal.returns-in-Some-clause-one
+returns-in-Some-clause-one g c = one_command_answer (command_of (map string_bytes c.args.words.now)) (g.F.Files.outside c.args.files.now).file
+
+pub returns-in-None-clause-one : goal.returns-in-None-clause-one
+returns-in-None-clause-one g c = one_command_answer (command_of (map string_bytes c.args.words.now)) (g.F.Files.outside c.args.files.now).file

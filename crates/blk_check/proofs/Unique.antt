@@ -1,0 +1,57 @@
+-- A statement with its interface has one verdict.
+use Rattle.std.proofs.Common.{◌≡◌, ◌≢◌, ◌⊎◌, inl, inr, ◌<◌, ◌≤◌, List, [], ◌∷◌, length, Option, None, Some, refl, sym, ◌∙◌, ap, subst, arith}
+use Rattle.asm_core.specs.Shape.{shapes_of}
+use Rattle.asm_core.specs.declared.statement.Statement.{Statement}
+use Rattle.asm_core.specs.declared.interface.Interface.{Interface}
+use Rattle.asm_core.specs.declared.shape.Shape.{Shape}
+use Rattle.asm_core.specs.declared.finding.Finding.{Finding}
+use Rattle.asm_core.specs.declared.sym.Sym.{Sym}
+use Rattle.blk_check.specs.Judged.{lines_in, shapes_mark, no_room, IsVerdict, IsShapesVerdict, IsLinesVerdict}
+use Rattle.blk_check.specs.Proven.{Proven}
+use Rattle.blk_check.specs.Verdict.{verdict_of}
+use Rattle.blk_check.specs.declared.verdict.Verdict.{Verdict}
+
+abbrev proven : Statement → Interface → List Sym → Proven
+proven s i lines = record { statement = s; interface = i; lines = lines }
+
+same_proof : (p q : Proven) → p.statement ≡ q.statement → p.interface ≡ q.interface → p.lines ≡ q.lines → p ≡ q
+same_proof p q statement interface lines =
+    ap (λ s. proven s p.interface p.lines) statement
+    ∙ ap (λ i. proven q.statement i p.lines) interface
+    ∙ ap (λ ls. proven q.statement q.interface ls) lines
+
+module _ (s : Statement) (i : Interface) where
+  lines_unique : (v w : Verdict) → IsLinesVerdict s i v → IsLinesVerdict s i w → v ≡ w
+  lines_unique (Verdict.Ok p) (Verdict.Ok q) h k =
+      let lines : p.lines ≡ q.lines = cc (h.2, k.2) in
+      ap Verdict.Ok (same_proof p q (h.0 ∙ sym k.0) (h.1 ∙ sym k.1) lines)
+  lines_unique (Verdict.Ok p) (Verdict.Broken findings) h k =
+      let lines : p.lines ≡ k.0 = cc (h.2, k.1) in
+      absurd (k.3 (k.2 ∙ ap (verdict_of i) (sym lines) ∙ h.3))
+  lines_unique (Verdict.Ok p) (Verdict.Outside mark) h k = absurd k
+  lines_unique (Verdict.Ok p) Verdict.NotYet h k = let no : Some p.lines ≡ None = sym h.2 ∙ k in cc
+  lines_unique (Verdict.Broken findings) (Verdict.Ok p) h k =
+      let lines : p.lines ≡ h.0 = cc (k.2, h.1) in
+      absurd (h.3 (h.2 ∙ ap (verdict_of i) (sym lines) ∙ k.3))
+  lines_unique (Verdict.Broken findings) (Verdict.Broken others) h k =
+      let lines : h.0 ≡ k.0 = cc (h.1, k.1) in
+      ap Verdict.Broken (h.2 ∙ ap (verdict_of i) lines ∙ sym k.2)
+  lines_unique (Verdict.Broken findings) (Verdict.Outside mark) h k = absurd k
+  lines_unique (Verdict.Broken findings) Verdict.NotYet h k = let no : Some h.0 ≡ None = sym h.1 ∙ k in cc
+  lines_unique (Verdict.Outside mark) w h k = absurd h
+  lines_unique Verdict.NotYet (Verdict.Ok p) h k = let no : Some p.lines ≡ None = sym k.2 ∙ h in cc
+  lines_unique Verdict.NotYet (Verdict.Broken findings) h k = let no : Some k.0 ≡ None = sym k.1 ∙ h in cc
+  lines_unique Verdict.NotYet (Verdict.Outside mark) h k = absurd k
+  lines_unique Verdict.NotYet Verdict.NotYet h k = refl
+
+  shapes_unique : (shapes : List Shape) (v w : Verdict) → IsShapesVerdict s i shapes v → IsShapesVerdict s i shapes w → v ≡ w
+  shapes_unique shapes v w (inl h) (inl k) = h.1 ∙ sym k.1
+  shapes_unique shapes v w (inl h) (inr k) = absurd (h.0 k.0)
+  shapes_unique shapes v w (inr h) (inl k) = absurd (k.0 h.0)
+  shapes_unique shapes v w (inr h) (inr k) = lines_unique v w h.1 k.1
+
+  pub verdict_unique : (v w : Verdict) → IsVerdict s i v → IsVerdict s i w → v ≡ w
+  verdict_unique v w (inl h) (inl k) = h.1 ∙ sym k.1
+  verdict_unique v w (inl h) (inr k) = let many = h.0 in let few = k.0 in absurd (omega (arith, many, few))
+  verdict_unique v w (inr h) (inl k) = let few = h.0 in let many = k.0 in absurd (omega (arith, many, few))
+  verdict_unique v w (inr h) (inr k) = shapes_unique (shapes_of i) v w h.1 k.1
