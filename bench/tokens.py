@@ -7,15 +7,14 @@ It builds a program that runs `tokens` over a copy of the repository's crates, o
 BENCH_TOKENS names one that is built already.
 """
 import os
-import shutil
 import subprocess
 import sys
 import tempfile
 import time
 
 from support import generated
+from support.program import built, crate_in
 
-ROOT = os.path.dirname(os.path.dirname(os.path.abspath(__file__)))
 SIZE = 16 * 1024 * 1024
 
 # The program, in Rattle.
@@ -46,26 +45,14 @@ fn main(rt: HostRuntime) -> Result<()> {
 }
 '''
 
-def built(folder):
-    """The program that runs `tokens`, built over a copy of the crates."""
-    for name in ("asm_core", "c_tokens"):
-        shutil.copytree(os.path.join(ROOT, "crates", name), os.path.join(folder, "crates", name))
-    own = os.path.join(folder, "crates", "bench_tokens")
-    os.makedirs(os.path.join(own, "src"))
-    with open(os.path.join(own, "src", "main.rt"), "w") as out:
-        out.write(PROGRAM)
-    shutil.copy(os.path.join(ROOT, "HANDLES"), folder)
-    with open(os.path.join(ROOT, "crates.txt")) as listed:
-        below = [line for line in listed if line.startswith(("asm_core:", "c_tokens:"))]
-    with open(os.path.join(folder, "crates.txt"), "w") as out:
-        out.write("".join(below) + "bench_tokens: c_tokens anyhow\n")
-    subprocess.run(["rt", "run", "--jobs", "2"], cwd=own, check=True, stdout=subprocess.DEVNULL)
-    return os.path.join(own, "out", "bench_tokens")
+def program_in(folder):
+    """The program that runs `tokens`."""
+    return built(crate_in(folder, "bench_tokens", ("anyhow", "c_tokens"), {"main.rt": PROGRAM}))
 
 
 def main():
     with tempfile.TemporaryDirectory() as folder:
-        program = os.environ.get("BENCH_TOKENS") or built(folder)
+        program = os.environ.get("BENCH_TOKENS") or program_in(folder)
         for path in sys.argv[1:] or [generated.write(os.path.join(folder, "large.i"), SIZE)]:
             print("%s: %d bytes" % (path, os.path.getsize(path)))
             subprocess.run([program, path], check=True)
