@@ -48,7 +48,7 @@ WIDE = lvalues("l ul gl") + values("l + 1; 5ll")
 # Those that are in memory.
 OBJECTS = lvalues("o z gb ga a t f l s gc") + [Expression('"abc"', constant="address")]
 # No operand of a register, or none at all.
-STRANGE = lvalues("f t o gf.low z other gh") + values("5ll; 1.0f; (void)0")
+STRANGE = lvalues("f t o gf.low z gh") + values("5ll; 1.0f; (void)0; other")
 REGISTERS = "abcdSDqQrrrrrr"
 NUMBERS = "inIJKMN"
 FOREIGN = "XoVpRftxyeZEFsGLOlTW?!*%#<>$^ 0"
@@ -153,7 +153,7 @@ class Generator:
     def tied(self, outputs, place):
         """An input that is placed as an output, in each alternative or in some."""
         output = outputs[place]
-        size = next((size for size, list in WORDS.items() if output.expression in list), 0)
+        size = next((size for size, words in WORDS.items() if output.expression in words), 0)
         expression = output.expression
         if size and self.chance(0.6):
             expression = self.random.choice(WORDS[size])
@@ -171,14 +171,14 @@ class Generator:
                 if text.isdigit() and outputs[int(text)].name and self.chance(0.5):
                     operand.alternatives[at] = f"[{outputs[int(text)].name}]"
 
-    def lvalue(self, list):
-        return self.random.choice([it for it in list if it.lvalue and not it.constant])
+    def lvalue(self, expressions):
+        return self.random.choice([it for it in expressions if it.lvalue and not it.constant])
 
     def expression(self, lvalue):
         """An expression, and its size where it may be in a register."""
         size = self.random.choices((1, 2, 4, 8, 0), (3, 2, 8, 1, 1))[0]
-        list = {**WORDS, 8: WIDE, 0: OBJECTS}[size]
-        return size, self.lvalue(list) if lvalue else self.random.choice(list)
+        expressions = {**WORDS, 8: WIDE, 0: OBJECTS}[size]
+        return size, self.lvalue(expressions) if lvalue else self.random.choice(expressions)
 
     def modifier(self, size):
         # Under `k` a byte has a name in every register.
@@ -189,7 +189,8 @@ class Generator:
             return self.random.choice(("A", "m", "Am") if expression.lvalue else ("A",))
         if size == 0:
             return "m"
-        kinds = self.random.choices(("r", "m", "i", "g", "rm", "ri", "mi", "rr", "rrmi"), (8, 3, 3, 1, 2, 3, 1, 2, 1))[0]
+        shares = {"r": 8, "m": 3, "i": 3, "g": 1, "rm": 2, "ri": 3, "mi": 1, "rr": 2, "rrmi": 1}
+        kinds = self.random.choices(*zip(*shares.items()))[0]
         if output:
             kinds = kinds.replace("i", "r") if self.chance(0.9) else kinds
         elif kinds in ("m", "mi") and not expression.lvalue and self.chance(0.9):
@@ -216,24 +217,24 @@ class Generator:
         """Changes a part of one operand, or what stands beside the operands."""
         operand = self.random.choice(statement.operands)
         at = self.random.randrange(len(operand.alternatives))
-        letters, list = operand.alternatives[at], operand.alternatives
+        letters, texts = operand.alternatives[at], operand.alternatives
         other_sign = self.random.choice("+=") if operand in statement.inputs else ""
         tie = self.random.choice(("0", "1", "9", "[x0]", "[y]"))
         sized = self.lvalue(WORDS[self.random.choice((1, 2, 4))])
         changes = [
-            lambda: list.__setitem__(at, letters + self.random.choice(FOREIGN)),
-            lambda: list.__setitem__(at, letters + self.random.choice("+=&")),
-            lambda: list.__setitem__(at, letters + "0"),
-            lambda: list.__setitem__(at, tie),
-            lambda: list.__setitem__(at, ""),
-            lambda: list.append("r"),
-            lambda: list.pop(),
+            lambda: texts.__setitem__(at, letters + self.random.choice(FOREIGN)),
+            lambda: texts.__setitem__(at, letters + self.random.choice("+=&")),
+            lambda: texts.__setitem__(at, letters + "0"),
+            lambda: texts.__setitem__(at, tie),
+            lambda: texts.__setitem__(at, ""),
+            lambda: texts.append("r"),
+            lambda: texts.pop(),
             lambda: setattr(operand, "sign", other_sign),
             lambda: setattr(operand, "expression", self.random.choice(STRANGE)),
             lambda: setattr(operand, "expression", sized),
             lambda: [setattr(it, "name", "x0") for it in statement.operands],
             lambda: setattr(statement, "more", " %7"),
-            lambda: setattr(statement, "more", f" %{self.random.choice('aznPlAhHqy')}0"),
+            lambda: setattr(statement, "more", f" %{self.random.choice('aznPlAHqy')}0"),
             lambda: statement.clobbers.append(self.random.choice(UNKNOWN)),
             lambda: statement.clobbers.append(FORMS.get(letters, "ebp").split()[0]),
         ]

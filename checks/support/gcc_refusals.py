@@ -22,9 +22,22 @@ def allows(operand, kind):
     return any(kind in kinds_of(allowed) for allowed in operand.alternatives)
 
 
-def together(statement, interface):
-    """Each operand with its interface, flag outputs aside."""
-    return [(it, told) for it, told in zip(statement.operands, interface.operands, strict=True) if not told.flag]
+def numbered(statement, interface):
+    """The number of each operand with the operand and its interface, flag outputs aside."""
+    for k, (operand, told) in enumerate(zip(statement.operands, interface.operands, strict=True)):
+        if not told.flag:
+            yield k, operand, told
+
+
+def ties_in(statement, interface, a):
+    """The outputs that the inputs are tied to in an alternative."""
+    tied = [told.alternatives[a].tied for _, _, told in numbered(statement, interface)]
+    return [output for output in tied if output is not None]
+
+
+def roots(interface, k):
+    """What is allowed for an operand in each alternative, where its output is if it is tied."""
+    return [root(interface, a, k) for a in range(len(interface.operands[k].alternatives))]
 
 
 def has_flag_and_alternatives(statement, interface):
@@ -34,16 +47,19 @@ def has_flag_and_alternatives(statement, interface):
 def has_early_memory(statement, interface):
     """Whether an in-out has an early alternative without a register: gcc makes it an input's."""
     return any(
-        told.role == "InOut" and any(it.early and "r" not in kinds_of(it) for it in told.alternatives)
-        for _, told in together(statement, interface)
+        told.role == "InOut"
+        and any(allowed.early and "r" not in kinds_of(allowed) for allowed in told.alternatives)
+        for _, _, told in numbered(statement, interface)
     )
 
 
 def has_divided_in_out(statement, interface):
     """Whether an in-out may be in a register in one alternative, and in memory alone in another."""
     return any(
-        told.role == "InOut" and allows(told, "r") and any(kinds_of(it) == ["m"] for it in told.alternatives)
-        for _, told in together(statement, interface)
+        told.role == "InOut"
+        and allows(told, "r")
+        and any(kinds_of(allowed) == ["m"] for allowed in told.alternatives)
+        for _, _, told in numbered(statement, interface)
     )
 
 
@@ -53,15 +69,9 @@ def has_value_in_memory(statement, interface):
         told.role == "In"
         and not it.expression.lvalue
         and not allows(told, "r")
-        and any("m" in kinds_of(root(interface, a, k)) for a in range(len(told.alternatives)))
-        for k, (it, told) in numbered(statement, interface)
+        and any(allowed.memory for allowed in roots(interface, k))
+        for k, it, told in numbered(statement, interface)
     )
-
-
-def numbered(statement, interface):
-    for k, (it, told) in enumerate(zip(statement.operands, interface.operands, strict=True)):
-        if not told.flag:
-            yield k, (it, told)
 
 
 def is_variable(operand, a):
@@ -72,19 +82,29 @@ def is_variable(operand, a):
 
 
 def has_variable_number(statement, interface):
-    """Whether an input is no constant, and no alternative lets it be in a register."""
-    return any(
-        allows(told, "i")
-        and not any("r" in kinds_of(root(interface, a, k)) for a in range(len(told.alternatives)))
-        and any(told.alternatives[a].numbers and is_variable(it, a) for a in range(len(told.alternatives)))
-        for k, (it, told) in numbered(statement, interface)
+    """Whether each shape with room has a number that is no constant."""
+    return all(
+        any(kinds[k] == "i" and is_variable(it, a) for k, it, _ in numbered(statement, interface))
+        for a, kinds in interface.rooms
     )
+
+
+def has_divided_tie(statement, interface):
+    """Whether an input is tied in one alternative, and may be in memory or a number in another."""
+    return any(
+        any(it.tied is not None for it in told.alternatives) and (allows(told, "m") or allows(told, "i"))
+        for _, _, told in numbered(statement, interface)
+    )
+
+
+def has_no_lvalue_output(statement, interface):
+    return any(not it.expression.lvalue and told.role != "In" for _, it, told in numbered(statement, interface))
 
 
 def has_tie_in_memory(statement, interface):
     return any(
         allowed.tied is not None and root(interface, a, k).memory
-        for k, (_, told) in numbered(statement, interface)
+        for k, _, told in numbered(statement, interface)
         for a, allowed in enumerate(told.alternatives)
     )
 
@@ -92,8 +112,7 @@ def has_tie_in_memory(statement, interface):
 def has_two_ties(statement, interface):
     """Whether two inputs are tied to one output in one alternative."""
     for a in range(alternative_count(interface)):
-        ties = [told.alternatives[a].tied for _, told in together(statement, interface)]
-        ties = [tie for tie in ties if tie is not None]
+        ties = ties_in(statement, interface, a)
         if len(ties) > len(set(ties)):
             return True
     return False
@@ -104,21 +123,21 @@ def has_nameless_byte(statement, interface):
     return any(
         told.size == 1
         and it.modifier != "k"
-        and any(root(interface, a, k).registers - set(REGISTERS[:4]) for a in range(len(told.alternatives)))
-        for k, (it, told) in numbered(statement, interface)
+        and any(allowed.registers - set(REGISTERS[:4]) for allowed in roots(interface, k))
+        for k, it, told in numbered(statement, interface)
     )
 
 
 def users(statement, interface, a, places):
     """What takes registers where operands have these places: where, and whether it is written, read and early."""
-    for k, (it, told) in numbered(statement, interface):
+    for k, it, told in numbered(statement, interface):
         allowed = told.alternatives[a]
         if places[k] == "m":
             for _ in range(it.expression.registers):
                 yield LETTERS["r"], False, True, False
         elif places[k] in LETTERS and allowed.tied is None:
-            tied = any(other.alternatives[a].tied == k for _, other in together(statement, interface))
-            yield LETTERS[places[k]], told.role != "In", told.role != "Out" or tied, allowed.early
+            read = told.role != "Out" or k in ties_in(statement, interface, a)
+            yield LETTERS[places[k]], told.role != "In", read, allowed.early
 
 
 def has_room(left, taken, clobbers):
@@ -174,13 +193,15 @@ def always(statement, interface):
 
 # The message, the reason's name, and what has to be so of the statement.
 REASONS = (
+    ("lvalue required in", "an output that is no lvalue", has_no_lvalue_output),
     ("differ in number of alternatives", "a flag output beside several alternatives", has_flag_and_alternatives),
     ("input operand constraint contains ‘&’", "an early in-out in memory alone", has_early_memory),
     ("memory input .* not directly addressable|impossible constraint in", "no lvalue in memory", has_value_in_memory),
-    ("impossible constraint in", "an in-out in registers or in memory by alternative", has_divided_in_out),
-    ("impossible constraint in", "a number that is no constant", has_variable_number),
+    ("impossible constraint in", "an in-out in a register or in memory by alternative", has_divided_in_out),
+    ("impossible constraint in", "a tie, or memory or a number, by alternative", has_divided_tie),
     ("inconsistent operand constraints|impossible constraint in", "two inputs tied to one output", has_two_ties),
     ("inconsistent operand constraints|impossible constraint in", "a tie to memory", has_tie_in_memory),
+    ("inconsistent operand constraints|impossible constraint", "a number that is no constant", has_variable_number),
     ("unsupported size for integer register", "a byte in a register without a byte name", has_nameless_byte),
     ("operand has impossible constraints", "a choice of letters without registers for all", has_crowded_choice),
     ("unable to find a register to spill", "gcc finds no register to spill", always),
