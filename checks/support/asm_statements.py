@@ -233,6 +233,7 @@ class Generator:
             lambda: setattr(operand, "expression", self.random.choice(STRANGE)),
             lambda: setattr(operand, "expression", sized),
             lambda: [setattr(it, "name", "x0") for it in statement.operands],
+            lambda: statement.inputs.append(Operand(operand.expression, [it.replace("&", "") for it in texts])),
             lambda: setattr(statement, "more", " %7"),
             lambda: setattr(statement, "more", f" %{self.random.choice('aznPlAHqy')}0"),
             lambda: statement.clobbers.append(self.random.choice(UNKNOWN)),
