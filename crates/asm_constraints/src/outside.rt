@@ -1,10 +1,10 @@
 //! The constraints that lie outside the tables.
 
-ghost use Rattle.std.specs.Prelude.{◌≡◌, ◌&&◌, count_by, find, option_map};
+ghost use Rattle.std.specs.Prelude.{◌≡◌, ◌&&◌, ◌||◌, not, count_by, find, option_map};
 ghost use Rattle.std.specs.List.{list_any};
 ghost use Rattle.std.specs.Option.{option_copied};
 ghost use Rattle.asm_core.specs.Constraint.{all_symbols};
-ghost use Rattle.asm_core.specs.Malformed.{is_letter, is_tie, is_sign, has_other, has_second_sign, has_two_ties, mixes_tie, takes_no_tie, is_bad_tie, has_bad_tie, is_constraint_outside};
+ghost use Rattle.asm_core.specs.Malformed.{is_letter, is_tie, is_sign, has_other, has_second_sign, says_nothing, has_two_ties, mixes_tie, takes_no_tie, is_bad_tie, has_bad_tie, is_constraint_outside};
 ghost use Rattle.asm_core.specs.Interface.{constraint_mark, first_constraint_mark};
 
 use crate::operand::is_signed;
@@ -72,6 +72,19 @@ fn mixes_tie(alternative: &Items<Symbol>) -> bool
     has_tie(alternative.as_slice()) && has_letter(alternative.as_slice())
 }
 
+/// Whether neither a letter nor a tie stands there.
+fn says_nothing(alternative: &Items<Symbol>) -> bool
+    ensures { result ≡ says_nothing alternative.now }
+{
+    !(has_tie(alternative.as_slice()) || has_letter(alternative.as_slice()))
+}
+
+fn some_says_nothing(alternatives: &[Items<Symbol>]) -> bool
+    ensures { result ≡ list_any says_nothing alternatives.now }
+{
+    alternatives.iter().any(says_nothing)
+}
+
 fn some_has_two_ties(alternatives: &[Items<Symbol>]) -> bool
     ensures { result ≡ list_any has_two_ties alternatives.now }
 {
@@ -120,6 +133,7 @@ fn is_constraint_outside(operands: &[ConstrainedOperand], operand: &ConstrainedO
 {
     has_other(operand)
         || has_second_sign(operand)
+        || some_says_nothing(operand.alternatives.as_slice())
         || some_has_two_ties(operand.alternatives.as_slice())
         || some_mixes_tie(operand.alternatives.as_slice())
         || has_bad_tie(operands, operand)

@@ -55,6 +55,10 @@ has_two_ties alternative = nat_lt 1 (count_by is_tie alternative)
 abbrev pub mixes_tie : List Symbol → Bool
 mixes_tie alternative = list_any is_tie alternative && list_any is_letter alternative
 
+-- No letter and no tie: gcc lets such an operand be anywhere, which no alternative here can say.
+abbrev pub says_nothing : List Symbol → Bool
+says_nothing alternative = not (list_any is_tie alternative || list_any is_letter alternative)
+
 abbrev pub is_read_role : Role → Bool
 is_read_role Role.Out = false
 is_read_role Role.InOut = true
@@ -78,7 +82,8 @@ has_bad_tie ws w = list_any (is_bad_tie ws) (all_symbols w)
 
 unfoldable pub is_constraint_outside : List ConstrainedOperand → ConstrainedOperand → Bool
 is_constraint_outside ws w =
-    has_other w || (has_second_sign w || (list_any has_two_ties w.alternatives || (list_any mixes_tie w.alternatives || has_bad_tie ws w)))
+    has_other w || (has_second_sign w || (list_any says_nothing w.alternatives
+    || (list_any has_two_ties w.alternatives || (list_any mixes_tie w.alternatives || has_bad_tie ws w))))
 
 -- ---- the cases of K2 that name an operand
 

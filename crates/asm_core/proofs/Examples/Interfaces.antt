@@ -328,6 +328,9 @@ marks :
     ∷ loose (statement (codes "=r" ∷ []) (codes "00r" ∷ []) ([])) (of_size 4 ∷ of_size 4 ∷ [])
     ∷ loose (statement (codes "=r" ∷ []) (codes "[0" ∷ []) ([])) (of_size 4 ∷ of_size 4 ∷ [])
     ∷ loose (statement (codes "+r" ∷ []) (codes "0" ∷ []) ([])) (of_size 4 ∷ of_size 4 ∷ [])
+    ∷ loose (statement ([]) (codes "" ∷ []) ([])) (of_size 4 ∷ [])
+    ∷ loose (statement (codes "=r,r" ∷ []) (codes "r," ∷ []) ([])) (of_size 4 ∷ of_size 4 ∷ [])
+    ∷ loose (statement (codes "=&" ∷ []) ([]) ([])) (of_size 4 ∷ [])
     ∷ []
     ≡ outside MarkKind.Clobber 500
     ∷ outside MarkKind.Clobber 500
@@ -336,6 +339,9 @@ marks :
     ∷ outside MarkKind.Constraint 110
     ∷ outside MarkKind.Constraint 110
     ∷ outside MarkKind.Constraint 110
+    ∷ outside MarkKind.Constraint 100
+    ∷ outside MarkKind.Constraint 110
+    ∷ outside MarkKind.Constraint 100
     ∷ []
 unfolding interface_of constrained_operands constrained_from constrained_operand alternatives_in symbols_from
     symbol_at byte_symbol letter_of output_numbered output_named flag_of flag_spelt first_clobber_mark
