@@ -98,7 +98,7 @@ def has_divided_tie(statement, interface):
 
 
 def has_no_lvalue_output(statement, interface):
-    return any(not it.expression.lvalue and told.role != "In" for _, it, told in numbered(statement, interface))
+    return any(not it.expression.lvalue for it in statement.outputs)
 
 
 def has_tie_in_memory(statement, interface):
