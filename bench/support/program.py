@@ -3,6 +3,7 @@ import os
 import re
 import shutil
 import subprocess
+import sys
 
 ROOT = os.path.dirname(os.path.dirname(os.path.dirname(os.path.abspath(__file__))))
 
@@ -41,5 +42,7 @@ def crate_in(folder, name, crates, sources):
 
 def built(crate):
     """Proves and builds the crate's program, runs it once without arguments, and returns its path."""
-    subprocess.run(["rt", "run", "--jobs", "2"], cwd=crate, check=True, stdout=subprocess.DEVNULL)
+    done = subprocess.run(["rt", "run", "--jobs", "2"], cwd=crate, text=True, capture_output=True)
+    if done.returncode:
+        sys.exit(done.stderr[-4000:])
     return os.path.join(crate, "out", os.path.basename(crate))
