@@ -5,3 +5,4 @@ pub mod RangeLemmas
 pub mod ReadLemmas
 pub mod SymbolLemmas
 pub mod WellFormedLemmas
+mod Letters
