@@ -10,7 +10,9 @@ use Rattle.asm_core.specs.Reading.Cut.{Raw, raws_of, instruction_count}
 use Rattle.asm_core.specs.Reading.Written.{register_named, number_of}
 use Rattle.asm_core.specs.Reading.Operands.{atom_code}
 use Rattle.asm_core.specs.Reading.Facts.{facts_of, is_fixed_cl}
-use Rattle.asm_core.specs.Reading.Line.{Reading, Line, line_read, readings_of, labels_of, targets_from}
+use Rattle.asm_core.specs.Reading.Line.{line_read, readings_of, labels_of, targets_from}
+use Rattle.asm_core.specs.declared.reading.Line.{Line}
+use Rattle.asm_core.specs.declared.reading.Reading.{Reading}
 use Rattle.asm_core.specs.declared.reg.Reg.{Reg}
 use Rattle.asm_core.specs.declared.reg.Slice.{Slice}
 use Rattle.asm_core.specs.declared.sym.Place.{Place}
