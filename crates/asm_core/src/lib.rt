@@ -46,7 +46,7 @@ pub use operand::Operand;
 pub use piece::{Modifier, Piece, Pieces, PiecesEnd};
 pub use placement::{Base, Form, Placement, Spot};
 pub use ranges::Ranges;
-pub use reading::{Atom, Leaf, Line, LineOperand, OperandFacts, Reading};
+pub use reading::{Atom, Leaf, Line, LineOperand, OperandFacts, Reading, Sign};
 pub use reg::{Reg, RegSet, Slice};
 pub use row::{Access, By, Row, Source, StepEnd, Write, Written};
 pub use shape::{Kind, Kinds, Shape};

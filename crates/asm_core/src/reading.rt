@@ -34,6 +34,14 @@ pub enum Leaf {
     Nameless,
 }
 
+/// A byte of a template's text under a placement, with where it comes from.
+#[derive(Clone, Copy, Debug, PartialEq, Eq)]
+pub struct Sign {
+    pub byte: u8,
+    /// 0 for the template, k + 1 for operand k, 255 for the number that `%=` gives.
+    pub origin: u16,
+}
+
 /// A piece of a template with what it stands for.
 #[derive(Clone, Copy, Debug)]
 pub struct Atom {
