@@ -1,4 +1,4 @@
--- Every range of numbers has 0, and one that is kept has the known number.
+-- Every range of numbers has 0, and one that is kept has the known number, and only numbers that an instruction can hold.
 use Rattle.std.proofs.Common.{◌≡◌, ℕ, ◌==◌, ℤ, pos, negsuc, ◌≤ℤ◌, int_lt, List, [], ◌∷◌, Bool, true, false, cond, Option, Some, None, fold, if◌then◌else◌, refl, subst, arith}
 use borrow.Author.Tests.{tests}
 use Rattle.std.specs.Int.{int_min, int_max}
@@ -101,15 +101,44 @@ kept_at false range kept e = cc
 known_in_range : (n : ℤ) (range : ℤ × ℤ) → has_known (Some n) range ≡ true → (range.0 ≤ℤ n) × (n ≤ℤ range.1)
 known_in_range n range e = (grind (arith, ints, tests), grind (arith, ints, tests))
 
+-- the range has only numbers that an instruction can hold
+pub record HasWords (range : ℤ × ℤ) : Type 0 where
+  pub low : negsuc 2147483647 ≤ℤ range.0
+  pub high : range.1 ≤ℤ pos 4294967295
+
+choose_words : (b : Bool) (r q : ℤ × ℤ) → HasWords r → HasWords q → HasWords (if b then r else q)
+choose_words true r q x y = x
+choose_words false r q x y = y
+
+numbers_of_size-words : (size : ℕ) → HasWords (numbers_of_size size)
+numbers_of_size-words size =
+    choose_words (size == 1) (negsuc 127, pos 127) _ (record { low = omega (arith, ints); high = omega (arith, ints) })
+    (choose_words (size == 2) (negsuc 32767, pos 32767) (negsuc 2147483647, pos 2147483647)
+    (record { low = omega (arith, ints); high = omega (arith, ints) }) (record { low = omega (arith, ints); high = omega (arith, ints) }))
+
+cut_low : (b : Bool) (a c : ℤ) → int_lt c a ≡ b → negsuc 2147483647 ≤ℤ c → negsuc 2147483647 ≤ℤ (cond b a c)
+cut_low true a c e low = grind (arith, ints, tests)
+cut_low false a c e low = low
+
+cut_high : (b : Bool) (a c : ℤ) → int_lt c a ≡ b → c ≤ℤ pos 4294967295 → (cond b c a) ≤ℤ pos 4294967295
+cut_high true a c e high = high
+cut_high false a c e high = grind (arith, ints, tests)
+
+-- whatever the range is, what is cut lies in the whole
+cut_to-words : (whole range : ℤ × ℤ) → HasWords whole → HasWords (cut_to whole range)
+cut_to-words whole range x = record { low = cut_low (int_lt whole.0 range.0) range.0 whole.0 refl x.low; high = cut_high (int_lt whole.1 range.1) range.1 whole.1 refl x.high }
+
 -- what a kept range has
 pub record IsKept (known : Option ℤ) (range : ℤ × ℤ) : Type 0 where
+  pub word : HasWords range
   pub zero_in : HasZero range
   pub known_in : (n : ℤ) → known ≡ Some n → (range.0 ≤ℤ n) × (n ≤ℤ range.1)
 
-kept_range-kept : (known : Option ℤ) (range kept : ℤ × ℤ) → HasZero range → kept_range known range ≡ Some kept → IsKept known kept
-kept_range-kept known range kept x e =
+kept_range-kept : (known : Option ℤ) (range kept : ℤ × ℤ) → HasWords range → HasZero range → kept_range known range ≡ Some kept → IsKept known kept
+kept_range-kept known range kept words x e =
     let both = kept_at (has_known known range) range kept e in
     subst (IsKept known) both.1 (record {
+      word = words;
       zero_in = x;
       known_in = λ n k. known_in_range n range (subst (λ (o : Option ℤ). has_known o range ≡ true) k both.0);
     })
@@ -117,7 +146,7 @@ kept_range-kept known range kept x e =
 range_in-kept : (size : ℕ) (known : Option ℤ) (range : Option (ℤ × ℤ)) (kept : ℤ × ℤ) → EachHasZero range → range_in size known range ≡ Some kept → IsKept known kept
 range_in-kept size known None kept x e = cc
 range_in-kept size known (Some range) kept x e =
-    kept_range-kept known (cut_to (numbers_of_size size) range) kept (cut_to-zero (numbers_of_size size) range (numbers_of_size-zero size) x) e
+    kept_range-kept known (cut_to (numbers_of_size size) range) kept (cut_to-words (numbers_of_size size) range (numbers_of_size-words size)) (cut_to-zero (numbers_of_size size) range (numbers_of_size-zero size) x) e
 
 pub numbers_of-kept : (output : Bool) (size : ℕ) (known : Option ℤ) (alternative : List Symbol) (kept : ℤ × ℤ) → numbers_of output size known alternative ≡ Some kept → IsKept known kept
 unfolding numbers_of

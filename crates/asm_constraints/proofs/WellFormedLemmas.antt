@@ -276,6 +276,8 @@ module _ (strict : Bool) (clobbers : List Quoted) (n : ℕ) (ws : List Constrain
       let whole : ◌≡◌ {A = Option (ℤ × ℤ)} (Some (pos 0, pos 0)) (Some range) = sym (ap (λ (x : AltIface). x.numbers) f.is) ∙ e in
       let same : (pos 0, pos 0) ≡ range = cc in
       subst (HasNumber o alt) same (record {
+        low = omega (arith, ints);
+        high = omega (arith, ints);
         least = λ none. let both : None ≡ Some (pos 0) = sym none ∙ f.known in cc;
         known = λ m k. let zero_is : ◌≡◌ {A = Option ℤ} (Some (pos 0)) (Some m) = sym f.known ∙ k in let is : pos 0 ≡ m = cc in
             subst (λ (z : ℤ). (pos 0 ≤ℤ z) × (z ≤ℤ pos 0)) is (omega (arith, ints), omega (arith, ints));
@@ -286,6 +288,8 @@ module _ (strict : Bool) (clobbers : List Quoted) (n : ℕ) (ws : List Constrain
   number_of_placed w o a alt range p e =
       let kept = numbers_of-kept w.output p.size (known_in w.typed) p.alternative range (sym (ap (λ (x : AltIface). x.numbers) p.is) ∙ e) in
       record {
+        low = kept.word.low;
+        high = kept.word.high;
         least = λ none. let low = kept.zero_in.low in let high = kept.zero_in.high in omega (arith, ints, low, high);
         known = λ m k. kept.known_in m (sym p.known ∙ k);
       }

@@ -1,5 +1,5 @@
 -- Where the compiler may put the operands of a shape.
-use Rattle.std.specs.Prelude.{◌≡◌, ◌≢◌, ℕ, ℤ, pos, negsuc, ◌≤ℤ◌, List, [], ◌∷◌, ◌++◌, length, Bool, true, false, IsTrue, Option, None, Some, slice_get, slice_index_or, if◌then◌else◌}
+use Rattle.std.specs.Prelude.{◌≡◌, ◌≢◌, ℕ, ℤ, pos, negsuc, ◌≤ℤ◌, List, [], ◌∷◌, ◌++◌, length, Bool, true, false, IsTrue, Option, None, Some, slice_get, slice_index_or, is_some, if◌then◌else◌}
 use Rattle.asm_core.specs.Reg.{IsIn}
 use Rattle.asm_core.specs.Lists.{IsMember, AreApart}
 use Rattle.asm_core.specs.declared.reg.Reg.{Reg}
@@ -54,8 +54,9 @@ pub record IsForm (form : Form) : Type 0 where
   pub high : form.disp ≤ℤ pos 4294967295
   pub scale : (x : Reg × ℕ) → form.index ≡ Some x → IsMember x.1 (1 ∷ 2 ∷ 4 ∷ 8 ∷ [])
 
--- a number in the range, and the known one where there is one
+-- a number in the range, which has to be there, and the known one where there is one
 pub record IsNumber (range : Option (ℤ × ℤ)) (known : Option ℤ) (n : ℤ) : Type 0 where
+  pub some : IsTrue (is_some range)
   pub within : (x : ℤ × ℤ) → range ≡ Some x → (x.0 ≤ℤ n) × (n ≤ℤ x.1)
   pub is_known : (x : ℤ) → known ≡ Some x → n ≡ x
 

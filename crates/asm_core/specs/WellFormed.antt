@@ -1,5 +1,5 @@
 -- What every interface of a statement keeps beyond its types.
-use Rattle.std.specs.Prelude.{◌≡◌, ℕ, ◌<◌, ◌≤◌, ℤ, ◌≤ℤ◌, length, false, IsTrue, None, Some, slice_get}
+use Rattle.std.specs.Prelude.{◌≡◌, ℕ, ◌<◌, ◌≤◌, ℤ, pos, negsuc, ◌≤ℤ◌, length, false, IsTrue, None, Some, slice_get}
 use Rattle.asm_core.specs.Placement.{is_output}
 use Rattle.asm_core.specs.declared.interface.AltIface.{AltIface}
 use Rattle.asm_core.specs.declared.interface.OperandIface.{OperandIface}
@@ -25,8 +25,11 @@ pub record IsTie (i : Interface) (k a output : ℕ) (o : OperandIface) (alt : Al
   pub input_alone : is_output o.role ≡ false
   pub not_early : alt.early ≡ false
 
--- some number may stand there: the known value, or else the lower end of the range
+-- The range has only numbers that an instruction can hold, from -2^31 to 2^32 - 1, and some number may stand there: the known
+-- value, or else the lower end of the range.
 pub record HasNumber (o : OperandIface) (alt : AltIface) (range : ℤ × ℤ) : Type 0 where
+  pub low : negsuc 2147483647 ≤ℤ range.0
+  pub high : range.1 ≤ℤ pos 4294967295
   pub least : o.known ≡ None → range.0 ≤ℤ range.1
   pub known : (n : ℤ) → o.known ≡ Some n → (range.0 ≤ℤ n) × (n ≤ℤ range.1)
 

@@ -74,11 +74,13 @@ memory_fits i o alt k (Some q) below free = (
 
 number_fits : (o : OperandIface) (alt : AltIface) (range : ℤ × ℤ) → alt.numbers ≡ Some range → HasNumber o alt range → (known : Option ℤ) → o.known ≡ known → IsNumber alt.numbers o.known (unwrap_or known (lower_end alt.numbers))
 number_fits o alt range is h None e = record {
+  some = rw is refl;
   within = λ x f. let same : x ≡ range = (let both : Some x ≡ Some range = sym f ∙ is in cc) in
       subst (λ n. (x.0 ≤ℤ n) × (n ≤ℤ x.1)) (sym (ap lower_end is)) (subst (λ (y : ℤ × ℤ). (y.0 ≤ℤ range.0) × (range.0 ≤ℤ y.1)) (sym same) (omega (arith, ints), h.least e));
   is_known = λ x f. let wrong : None ≡ Some x = sym e ∙ f in cc;
 }
 number_fits o alt range is h (Some n) e = record {
+  some = rw is refl;
   within = λ x f. let same : x ≡ range = (let both : Some x ≡ Some range = sym f ∙ is in cc) in subst (λ (y : ℤ × ℤ). (y.0 ≤ℤ n) × (n ≤ℤ y.1)) (sym same) (h.known n e);
   is_known = λ x f. let both : Some n ≡ Some x = sym e ∙ f in cc;
 }

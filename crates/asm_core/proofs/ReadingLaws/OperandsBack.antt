@@ -1,17 +1,18 @@
 -- What an operand's text is read as, is what its hole stands for under the placement.
-use Rattle.std.proofs.Common.{◌≡◌, ℕ, zero, suc, ◌/◌, ◌%◌, ◌==◌, ◌&&◌, ◌||◌, ◌<◌, ◌^◌, not, ℤ, List, ◌∷◌, drop, Bool, true, false, cond, IsTrue, Option, None, Some, refl, ap, sym, subst, ◌∙◌, slice_get, arith}
+use Rattle.std.proofs.Common.{◌≡◌, ℕ, zero, suc, ◌/◌, ◌%◌, ◌==◌, ◌&&◌, ◌||◌, ◌<◌, ◌^◌, not, is_some, ℤ, List, ◌∷◌, drop, Bool, true, false, cond, IsTrue, Option, None, Some, refl, ap, sym, subst, ◌∙◌, slice_get, arith}
 use Rattle.std.proofs.lemmas.Bool.{eqb-true, ne_eqb}
+use Rattle.std.proofs.lemmas.Int.{ints}
 use Rattle.std.proofs.lemmas.Option.{slice_get_within}
 use Rattle.std.specs.Fmt.{signed_decimal}
 use Rattle.std.specs.Option.{option_map, option_and_then}
 use Rattle.asm_core.specs.Reg.{IsIn, reg_number}
 use Rattle.asm_core.specs.Placement.{spot_of, HasOperand, Fits, IsAllowed, tie_root}
 use Rattle.asm_core.specs.Placement as placement
-use Rattle.asm_core.specs.WellFormed.{IsInterface}
+use Rattle.asm_core.specs.WellFormed.{HasNumber, IsInterface}
 use Rattle.asm_core.specs.Reading.Written.{register_named}
 use Rattle.asm_core.specs.Reading.Facts.{only_register, fixed_register, allows_byte_names, facts_from, alternative_at, facts_with, facts_of, slice_of, is_byte_slice, place_of, is_fixed_cl, register_leaf, disp_of, number_leaf, memory_leaf, leaf_by, leaf_of}
 use Rattle.asm_core.specs.Reading.Text.{read_register, read_number, form_read, read_by, leaf_read}
-use Rattle.asm_core.specs.Reading.Placed.{placed_place, placed_disp, spot_place, spot_disp, IsWordNumber, IsWordSpot, HasWords}
+use Rattle.asm_core.specs.Reading.Placed.{placed_place, placed_disp, spot_place, spot_disp, IsWordNumber}
 use Rattle.asm_core.specs.Expansion.{name_of, register_text, number_text, form_text, memory_text, printed, operand_text}
 use Rattle.asm_core.proofs.ReadingLaws.OperandsPlaced.{placed_leaf}
 use Rattle.asm_core.proofs.ReadingLaws.ReadBack.{register_back, number_back, form_back, signed_first}
@@ -51,8 +52,8 @@ IsKnown (Some m) n = m ≡ n
 abbrev FitsFacts : OperandFacts → Kind → Spot → Type 0
 FitsFacts fact Kind.Register (Spot.Register r) = IsFixed fact.fixed r × HasByteName fact.has_byte_names r
 FitsFacts fact Kind.Register Spot.Pair = IsFixed fact.fixed Eax × HasByteName fact.has_byte_names Eax
-FitsFacts fact Kind.Number (Spot.Number n) = IsKnown fact.known n
-FitsFacts fact Kind.Memory (Spot.Memory form) = Unit {0}
+FitsFacts fact Kind.Number (Spot.Number n) = IsWordNumber n × IsKnown fact.known n
+FitsFacts fact Kind.Memory (Spot.Memory form) = placement.IsForm form
 FitsFacts fact kind spot = ⊥
 
 module _ (p : Placement) (fact : OperandFacts) where
@@ -112,20 +113,20 @@ module _ (p : Placement) (fact : OperandFacts) where
   memory_leaf_back Modifier.W f text is spot e = address_leaf f text is spot (cc)
   memory_leaf_back Modifier.K f text is spot e = address_leaf f text is spot (cc)
 
-  pub leaf_back : (kind : Kind) (m : Modifier) (spot : Spot) (text : List ℕ) → spot_of p fact.root ≡ spot → FitsFacts fact kind spot → IsWordSpot spot → printed fact.size m spot ≡ Some text
+  pub leaf_back : (kind : Kind) (m : Modifier) (spot : Spot) (text : List ℕ) → spot_of p fact.root ≡ spot → FitsFacts fact kind spot → printed fact.size m spot ≡ Some text
       → read_by kind fact text ≡ placed_leaf p (leaf_by kind fact m)
-  leaf_back Kind.Register m (Spot.Register r) text spot fits word e = register_leaf_back r (slice_of fact.size m) text fits.0 fits.1 (ap (spot_place fact.root) spot) e
-  leaf_back Kind.Register m Spot.Pair text spot fits word e = register_leaf_back Eax (slice_of fact.size m) text fits.0 fits.1 (ap (spot_place fact.root) spot) e
-  leaf_back Kind.Register m (Spot.Memory f) text spot fits word e = absurd fits
-  leaf_back Kind.Register m (Spot.Number n) text spot fits word e = absurd fits
-  leaf_back Kind.Number m (Spot.Number n) text spot fits word e = number_leaf_back m n text word fits spot e
-  leaf_back Kind.Number m (Spot.Register r) text spot fits word e = absurd fits
-  leaf_back Kind.Number m Spot.Pair text spot fits word e = absurd fits
-  leaf_back Kind.Number m (Spot.Memory f) text spot fits word e = absurd fits
-  leaf_back Kind.Memory m (Spot.Memory f) text spot fits word e = memory_leaf_back m f text word spot e
-  leaf_back Kind.Memory m (Spot.Register r) text spot fits word e = absurd fits
-  leaf_back Kind.Memory m Spot.Pair text spot fits word e = absurd fits
-  leaf_back Kind.Memory m (Spot.Number n) text spot fits word e = absurd fits
+  leaf_back Kind.Register m (Spot.Register r) text spot fits e = register_leaf_back r (slice_of fact.size m) text fits.0 fits.1 (ap (spot_place fact.root) spot) e
+  leaf_back Kind.Register m Spot.Pair text spot fits e = register_leaf_back Eax (slice_of fact.size m) text fits.0 fits.1 (ap (spot_place fact.root) spot) e
+  leaf_back Kind.Register m (Spot.Memory f) text spot fits e = absurd fits
+  leaf_back Kind.Register m (Spot.Number n) text spot fits e = absurd fits
+  leaf_back Kind.Number m (Spot.Number n) text spot fits e = number_leaf_back m n text fits.0 fits.1 spot e
+  leaf_back Kind.Number m (Spot.Register r) text spot fits e = absurd fits
+  leaf_back Kind.Number m Spot.Pair text spot fits e = absurd fits
+  leaf_back Kind.Number m (Spot.Memory f) text spot fits e = absurd fits
+  leaf_back Kind.Memory m (Spot.Memory f) text spot fits e = memory_leaf_back m f text fits spot e
+  leaf_back Kind.Memory m (Spot.Register r) text spot fits e = absurd fits
+  leaf_back Kind.Memory m Spot.Pair text spot fits e = absurd fits
+  leaf_back Kind.Memory m (Spot.Number n) text spot fits e = absurd fits
 
 -- a set of one register
 only_case : (v : ℕ) (q : Reg) (n : ℕ) (r : Reg) (rest : Option Reg) → (n ≡ v → q ≡ r) → IsFixed rest r → IsFixed (cond (n == v) (Some q) rest) r
@@ -272,25 +273,38 @@ byte_names_is alt r is s name byte e =
 byte_names_pair : (alt : AltIface) → IsTrue alt.pair → HasByteName (allows_byte_names alt) Eax
 byte_names_pair alt is s name byte e = rw is refl
 
+-- the ranges of an alternative have only numbers of words
+abbrev HasNumbers : OperandIface → AltIface → Type 0
+HasNumbers o alt = (range : ℤ × ℤ) → alt.numbers ≡ Some range → HasNumber o alt range
+
+-- a number that may stand there is one of a word
+number_word : (o : OperandIface) (alt : AltIface) (n : ℤ) (range : Option (ℤ × ℤ)) → alt.numbers ≡ range → HasNumbers o alt → placement.IsNumber alt.numbers o.known n → IsWordNumber n
+number_word o alt n None e has is = let there : IsTrue false = subst (λ (r : Option (ℤ × ℤ)). IsTrue (is_some r)) e is.some in absurd (cc)
+number_word o alt n (Some range) e has is =
+    let from = (has range e).low in
+    let upto = (has range e).high in
+    let within = is.within range e in
+    record { low = omega (arith, ints, from, within.0); high = omega (arith, ints, upto, within.1) }
+
 -- what an untied operand's letters allow is what its facts say
-fits_facts : (i : Interface) (o : OperandIface) (alt : AltIface) (kind : Kind) (spot : Spot) (size root : ℕ) → Fits i o alt kind spot
+fits_facts : (i : Interface) (o : OperandIface) (alt : AltIface) (kind : Kind) (spot : Spot) (size root : ℕ) → HasNumbers o alt → Fits i o alt kind spot
     → FitsFacts (record { kind = kind; size = size; known = o.known; fixed = fixed_register alt; has_byte_names = allows_byte_names alt; root = root }) kind spot
-fits_facts i o alt Kind.Register (Spot.Register r) size root fits = (fixed_is alt r fits.0, byte_names_is alt r fits.0)
-fits_facts i o alt Kind.Register Spot.Pair size root fits = (fixed_pair alt fits.0, byte_names_pair alt fits.0)
-fits_facts i o alt Kind.Register (Spot.Memory f) size root fits = absurd fits
-fits_facts i o alt Kind.Register (Spot.Number n) size root fits = absurd fits
-fits_facts i o alt Kind.Memory (Spot.Memory f) size root fits = tt
-fits_facts i o alt Kind.Memory (Spot.Register r) size root fits = absurd fits
-fits_facts i o alt Kind.Memory Spot.Pair size root fits = absurd fits
-fits_facts i o alt Kind.Memory (Spot.Number n) size root fits = absurd fits
-fits_facts i o alt Kind.Number (Spot.Number n) size root fits = known_is o.known fits.is_known
+fits_facts i o alt Kind.Register (Spot.Register r) size root has fits = (fixed_is alt r fits.0, byte_names_is alt r fits.0)
+fits_facts i o alt Kind.Register Spot.Pair size root has fits = (fixed_pair alt fits.0, byte_names_pair alt fits.0)
+fits_facts i o alt Kind.Register (Spot.Memory f) size root has fits = absurd fits
+fits_facts i o alt Kind.Register (Spot.Number n) size root has fits = absurd fits
+fits_facts i o alt Kind.Memory (Spot.Memory f) size root has fits = fits.0
+fits_facts i o alt Kind.Memory (Spot.Register r) size root has fits = absurd fits
+fits_facts i o alt Kind.Memory Spot.Pair size root has fits = absurd fits
+fits_facts i o alt Kind.Memory (Spot.Number n) size root has fits = absurd fits
+fits_facts i o alt Kind.Number (Spot.Number n) size root has fits = (number_word o alt n alt.numbers refl has fits, known_is o.known fits.is_known)
   where
     known_is : (known : Option ℤ) → ((x : ℤ) → known ≡ Some x → n ≡ x) → IsKnown known n
     known_is None h = tt
     known_is (Some m) h = sym (h m refl)
-fits_facts i o alt Kind.Number (Spot.Register r) size root fits = absurd fits
-fits_facts i o alt Kind.Number Spot.Pair size root fits = absurd fits
-fits_facts i o alt Kind.Number (Spot.Memory f) size root fits = absurd fits
+fits_facts i o alt Kind.Number (Spot.Register r) size root has fits = absurd fits
+fits_facts i o alt Kind.Number Spot.Pair size root has fits = absurd fits
+fits_facts i o alt Kind.Number (Spot.Memory f) size root has fits = absurd fits
 
 module _ (i : Interface) (s : Shape) where
   root_is : (k : ℕ) (o : OperandIface) (found : Option AltIface) → slice_get i.operands k ≡ Some o → slice_get o.alts s.alternative ≡ found
@@ -344,8 +358,9 @@ module _ (i : Interface) (s : Shape) where
     hold_from (Some ro) (Some alt) (Some kind) fact eo ea ek e =
         let root = tie_root i s k in
         let same : (record { kind = kind; size = o.size; known = ro.known; fixed = fixed_register alt; has_byte_names = allows_byte_names alt; root = root }) ≡ fact = cc in
+        let has : HasNumbers ro alt = λ range e. is.numbers root s.alternative ro alt range (record { is_operand = eo; is_alternative = ea }) e in
         let fits : Fits i ro alt kind (spot_of p root) = allowed.fits root ro alt kind (record { is_operand = eo; is_alternative = ea; is_kind = ek }) (root_untied is k o there ro alt eo ea) in
-        subst (λ f. Hold p k o f) same (record { size = refl; spot = allowed.ties k; fits = fits_facts i ro alt kind (spot_of p root) o.size root fits })
+        subst (λ f. Hold p k o f) same (record { size = refl; spot = allowed.ties k; fits = fits_facts i ro alt kind (spot_of p root) o.size root has fits })
 
     facts_hold : (fact : OperandFacts) → facts_of i s k ≡ Some fact → Hold p k o fact
     unfolding facts_of
@@ -353,13 +368,13 @@ module _ (i : Interface) (s : Shape) where
         hold_from (slice_get i.operands (tie_root i s k)) (alternative_at (slice_get i.operands (tie_root i s k)) s.alternative) (slice_get s.kinds (tie_root i s k)) fact refl refl refl
         (subst (λ q. facts_with i s (tie_root i s k) q ≡ Some fact) there e)
 
-  module _ (is : IsInterface i) (p : Placement) (allowed : IsAllowed i s p) (words : HasWords p) (k : ℕ) (m : Modifier) (text : List ℕ) where
+  module _ (is : IsInterface i) (p : Placement) (allowed : IsAllowed i s p) (k : ℕ) (m : Modifier) (text : List ℕ) where
     hole_with : (o : OperandIface) → slice_get i.operands k ≡ Some o → printed o.size m (spot_of p k) ≡ Some text → (fact : Option OperandFacts) → facts_of i s k ≡ fact → leaf_read fact text ≡ placed_leaf p (leaf_of fact m)
     hole_with o there e None f = refl
     hole_with o there e (Some fact) f =
         let hold = facts_hold is p allowed k o there fact f in
         let printed_there : printed fact.size m (spot_of p fact.root) ≡ Some text = rw (hold.size, ← hold.spot) e in
-        leaf_back p fact fact.kind m (spot_of p fact.root) text refl hold.fits (words fact.root) printed_there
+        leaf_back p fact fact.kind m (spot_of p fact.root) text refl hold.fits printed_there
 
     by_operand : (o : Option OperandIface) → slice_get i.operands k ≡ o → option_and_then (λ (q : OperandIface). printed q.size m (spot_of p k)) o ≡ Some text
         → leaf_read (facts_of i s k) text ≡ placed_leaf p (leaf_of (facts_of i s k) m)

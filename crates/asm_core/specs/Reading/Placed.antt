@@ -1,9 +1,10 @@
 -- The lines of a template with each operand replaced by what a placement puts there.
 use Rattle.std.specs.Prelude.{◌≡◌, ℕ, ◌^◌, ◌<◌, ℤ, pos, negsuc, ◌≤ℤ◌, ◌&&◌, nat_lt, not, Bool, true, List, [], ◌∷◌, map, Option, None, Some, Ok, slice_get}
 use Rattle.std.specs.Option.{option_map}
-use Rattle.asm_core.specs.Placement.{spot_of, IsForm, IsAllowed}
+use Rattle.asm_core.specs.Placement.{spot_of, IsAllowed}
 use Rattle.asm_core.specs.Expansion.{expansion_of}
-use Rattle.asm_core.specs.Reading.Text.{Sign, TextCode, code_of_text, register_arg, number_arg, memory_arg, address_arg}
+use Rattle.asm_core.specs.Reading.Text.{TextCode, code_of_text, register_arg, number_arg, memory_arg, address_arg}
+use Rattle.asm_core.specs.declared.reading.Sign.{Sign}
 use Rattle.asm_core.specs.declared.reg.Reg.{Reg}
 use Rattle.asm_core.specs.declared.sym.Place.{Place}
 use Rattle.asm_core.specs.declared.sym.Disp.{Disp}
@@ -96,18 +97,7 @@ pub record IsWordNumber (n : ℤ) : Type 0 where
   pub low : negsuc 2147483647 ≤ℤ n
   pub high : n ≤ℤ pos 4294967295
 
--- what an instruction can hold
-abbrev pub IsWordSpot : Spot → Type 0
-IsWordSpot (Spot.Number n) = IsWordNumber n
-IsWordSpot (Spot.Memory form) = IsForm form
-IsWordSpot (Spot.Register r) = Unit {0}
-IsWordSpot Spot.Pair = Unit {0}
-
--- its numbers and addresses are such
-abbrev pub HasWords : Placement → Type 0
-HasWords p = (k : ℕ) → IsWordSpot (spot_of p k)
-
 -- Under every allowed placement that gives each operand a name, the lines say what the text says.
 pub record ReadsWhole (rows : List NameRow) (i : Interface) (s : Shape) (ps : List Piece) (lines : Lines) : Type 0 where
-  pub each : (p : Placement) (unique : ℕ) (text : List Sign) → IsAllowed i s p → HasWords p → unique < 2 ^ 32 → expansion_of i p unique ps ≡ Ok text
+  pub each : (p : Placement) (unique : ℕ) (text : List Sign) → IsAllowed i s p → unique < 2 ^ 32 → expansion_of i p unique ps ≡ Ok text
       → code_of_text rows i s text ≡ code_under p lines
