@@ -1,4 +1,6 @@
 -- Reading a template with holes and then placing is reading its text.
+pub mod BodiesApart
+pub mod BodiesRead
 pub mod CommentPlaces
 pub mod CommentsAlike
 pub mod CommentsLeft

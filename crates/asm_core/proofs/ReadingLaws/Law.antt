@@ -120,7 +120,7 @@ module _ (i : Interface) (p : Placement) where
       by None e = some_at 63 [] _ refl
       by (Some text) e = some_printed o.size m (spot_of p k) text e
 
-  give_text : (unique : ℕ) → GiveText i p unique
+  pub give_text : (unique : ℕ) → GiveText i p unique
   give_text unique = record { number = some_decimal unique; each = λ k m. some_operand k m (slice_get i.operands k) }
 
 module _ (rows : List NameRow) (i : Interface) (s : Shape) (is : IsInterface i) where
