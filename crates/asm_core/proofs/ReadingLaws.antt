@@ -5,6 +5,7 @@ pub mod CommentPlaces
 pub mod CommentsAlike
 pub mod CommentsLeft
 pub mod CutKept
+pub mod HolesNamed
 pub mod Law
 pub mod LinesPlaced
 pub mod OperandsPlaced
@@ -12,3 +13,4 @@ pub mod OperandsBack
 pub mod PiecesApart
 pub mod ReadBack
 pub mod Runs
+pub mod WrittenCodes

@@ -42,7 +42,7 @@ abbrev pub is_cl : Reg × Slice → Bool
 is_cl (Reg.Ecx, Slice.Low8) = true
 is_cl r = false
 
-abbrev number_disp : Option ℤ → Option Disp
+abbrev pub number_disp : Option ℤ → Option Disp
 number_disp n = option_map Disp.Number n
 
 abbrev pub disp_or : Leaf → Option ℤ → Option Disp

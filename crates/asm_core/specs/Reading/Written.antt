@@ -46,11 +46,11 @@ abbrev pub not_above : Option ℕ → ℕ → Option ℕ
 not_above None limit = None
 not_above (Some n) limit = if nat_le n limit then Some n else None
 
-abbrev as_positive : Option ℕ → Option ℤ
+abbrev pub as_positive : Option ℕ → Option ℤ
 as_positive None = None
 as_positive (Some n) = Some (pos n)
 
-abbrev as_negative : Option ℕ → Option ℤ
+abbrev pub as_negative : Option ℕ → Option ℤ
 as_negative None = None
 as_negative (Some n) = Some (negative n)
 
