@@ -8,4 +8,5 @@ pub mod ReadBack
 pub mod ReadingLaws
 pub mod RegisterLaws
 pub mod Runs
+pub mod ShapeLaws
 pub mod StepLaws

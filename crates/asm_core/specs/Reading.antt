@@ -8,6 +8,7 @@ pub mod Operands
 pub mod Placed
 pub mod Text
 pub mod Unasked
+pub mod UnderShape
 pub mod Written
 use Rattle.std.specs.Prelude.{List, [], ◌∷◌, map, Option, None, Some, slice_get}
 use Rattle.asm_core.specs.Lists.{count_from}

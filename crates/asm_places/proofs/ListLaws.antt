@@ -15,7 +15,7 @@ use Rattle.asm_core.specs.declared.interface.AltIface.{AltIface}
 use Rattle.asm_core.specs.declared.interface.OperandIface.{OperandIface}
 use Rattle.asm_core.specs.declared.interface.Interface.{Interface}
 use Rattle.asm_places.specs.Counts.{kind_count, list_count, one_longer, all_longer, allowed_in, count_with, lists_with, shape_of, of_alternative}
-use Rattle.asm_places.proofs.SoundShapes.{inside_get}
+use Rattle.asm_core.proofs.ShapeLaws.{inside_get}
 
 -- ---- alternatives in order
 

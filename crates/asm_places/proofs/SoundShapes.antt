@@ -1,10 +1,10 @@
--- What each shape of an interface is made of.
-use Rattle.std.proofs.Common.{◌≡◌, ◌⊎◌, inl, inr, ℕ, zero, suc, ◌+◌, ◌<◌, List, [], ◌∷◌, ◌++◌, length, map, Bool, true, false, not, Option, None, Some, is_some, slice_get, option_to_list, refl, sym, ap, subst, ◌∙◌, length-append, arith, ◌==◌, ◌||◌, if◌then◌else◌}
-use Rattle.std.specs.List.{flat_map}
-use Rattle.asm_core.specs.Lists.{count_from, IsMember}
+-- Each shape of an interface is sound.
+use Rattle.std.proofs.Common.{◌≡◌, inl, inr, ℕ, List, [], ◌∷◌, ◌++◌, Bool, true, false, not, Option, None, Some, is_some, slice_get, refl, sym, ap, subst, ◌∙◌, ◌==◌, ◌||◌, if◌then◌else◌}
+use Rattle.asm_core.specs.Lists.{IsMember}
 use Rattle.asm_core.specs.Placement.{HasOperand}
-use Rattle.asm_core.specs.Shape.{letter_kinds, kinds_after, kind_lists, alternative_of, alternatives_of, shapes_of}
+use Rattle.asm_core.specs.Shape.{letter_kinds, shapes_of}
 use Rattle.asm_core.specs.WellFormed.{IsInterface}
+use Rattle.asm_core.proofs.ShapeLaws.{IsKindFor, IsInShape, IsShape, is_shape}
 use Rattle.asm_core.specs.declared.shape.Kind.{Kind}
 use Rattle.asm_core.specs.declared.shape.Kind.TheVariants.{Register, Memory, Number}
 use Rattle.asm_core.specs.declared.shape.Shape.{Shape}
@@ -12,129 +12,6 @@ use Rattle.asm_core.specs.declared.interface.AltIface.{AltIface}
 use Rattle.asm_core.specs.declared.interface.OperandIface.{OperandIface}
 use Rattle.asm_core.specs.declared.interface.Interface.{Interface}
 use Rattle.asm_places.proofs.Sound.{IsAtShape, IsTied, IsRange, IsSound}
-
--- ---- members of lists
-
-member_append : {A : Type 0} (x : A) (xs ys : List A) → IsMember x (xs ++ ys) → IsMember x xs ⊎ IsMember x ys
-member_append x [] ys m = inr m
-member_append x (y ∷ xs) ys m = elim m [
-  | inl e ↦ inl (inl e)
-  | inr n ↦ elim (member_append x xs ys n) [ inl a ↦ inl (inr a) | inr b ↦ inr b ]
-]
-
-record IsFrom {A B : Type 0} (f : A → List B) (y : B) (xs : List A) : Type 0 where
-  from : A
-  member : IsMember from xs
-  here : IsMember y (f from)
-
-from_flat : {A B : Type 0} (f : A → List B) (y : B) (xs : List A) → IsMember y (flat_map f xs) → IsFrom f y xs
-from_flat f y [] m = absurd m
-from_flat f y (x ∷ xs) m = elim (member_append y (f x) (flat_map f xs) m) [
-  | inl a ↦ record { from = x; member = inl refl; here = a }
-  | inr b ↦ let r = from_flat f y xs b in record { from = r.from; member = inr r.member; here = r.here }
-]
-
-record IsImage {A B : Type 0} (f : A → B) (y : B) (xs : List A) : Type 0 where
-  from : A
-  member : IsMember from xs
-  image : y ≡ f from
-
-from_map : {A B : Type 0} (f : A → B) (y : B) (xs : List A) → IsMember y (map f xs) → IsImage f y xs
-from_map f y [] m = absurd m
-from_map f y (x ∷ xs) m = elim m [
-  | inl e ↦ record { from = x; member = inl refl; image = e }
-  | inr n ↦ let r = from_map f y xs n in record { from = r.from; member = inr r.member; image = r.image }
-]
-
--- ---- kinds of operands
-
-append_inside : {A : Type 0} (xs ys : List A) (k : ℕ) (x : A) → slice_get xs k ≡ Some x → slice_get (xs ++ ys) k ≡ Some x
-append_inside [] ys k x h = cc
-append_inside (y ∷ xs) ys zero x h = h
-append_inside (y ∷ xs) ys (suc k) x h = append_inside xs ys k x h
-
-append_last : {A : Type 0} (xs : List A) (y : A) (ys : List A) → slice_get (xs ++ y ∷ ys) (length xs) ≡ Some y
-append_last [] y ys = refl
-append_last (x ∷ xs) y ys = append_last xs y ys
-
--- the kind that stands at an operand: one of its letters', or that of its output
-record IsKindFor (kinds : List Kind) (n : ℕ) (alt : AltIface) : Type 0 where
-  kind : Kind
-  here : slice_get kinds n ≡ Some kind
-  untied : alt.tied ≡ None → IsMember kind (letter_kinds alt)
-  tied : (t : ℕ) → alt.tied ≡ Some t → slice_get kinds t ≡ Some kind
-
-record IsKinds (before : List Kind) (alts : List AltIface) (kinds : List Kind) : Type 0 where
-  begins : (k : ℕ) (x : Kind) → slice_get before k ≡ Some x → slice_get kinds k ≡ Some x
-  each : (j n : ℕ) (alt : AltIface) → slice_get alts j ≡ Some alt → n ≡ length before + j → IsKindFor kinds n alt
-
-in_option : {A : Type 0} (o : Option A) (x : A) → IsMember x (option_to_list o) → o ≡ Some x
-in_option None x m = absurd m
-in_option (Some y) x m = elim m [ inl e ↦ ap Some (sym e) | inr n ↦ absurd n ]
-
-kind_for : (before kinds : List Kind) (alt : AltIface) (kind : Kind) (n : ℕ) → IsMember kind (kinds_after before alt) → ((k : ℕ) (x : Kind) → slice_get before k ≡ Some x → slice_get kinds k ≡ Some x)
-    → slice_get kinds n ≡ Some kind → IsKindFor kinds n alt
-kind_for before kinds alt kind n m begins here = record {
-  kind = kind;
-  here = here;
-  untied = λ none. subst (IsMember kind) (ap by_tie none) m;
-  tied = λ t some. begins t kind (in_option (slice_get before t) kind (subst (IsMember kind) (ap by_tie some) m));
-}
-  where
-    by_tie : Option ℕ → List Kind
-    by_tie t = elim t [ None ↦ letter_kinds alt | Some k ↦ option_to_list (slice_get before k) ]
-
-kinds_of : (before : List Kind) (alts : List AltIface) (kinds : List Kind) → IsMember kinds (kind_lists before alts) → IsKinds before alts kinds
-kinds_of before [] kinds m = elim m [
-  | inl e ↦ record { begins = λ k x h. ap (λ l. slice_get l k) e ∙ h; each = λ j n alt is at. cc }
-  | inr n ↦ absurd n
-]
-kinds_of before (alt ∷ alts) kinds m =
-    let f = from_flat (λ kind. kind_lists (before ++ kind ∷ []) alts) kinds (kinds_after before alt) m in
-    let rest = kinds_of (before ++ f.from ∷ []) alts kinds f.here in
-    let begins : (k : ℕ) (x : Kind) → slice_get before k ≡ Some x → slice_get kinds k ≡ Some x = λ k x h. rest.begins k x (append_inside before (f.from ∷ []) k x h) in
-    record { begins = begins; each = at f.from f.member begins rest }
-  where
-    at : (kind : Kind) → IsMember kind (kinds_after before alt) → ((k : ℕ) (x : Kind) → slice_get before k ≡ Some x → slice_get kinds k ≡ Some x) → IsKinds (before ++ kind ∷ []) alts kinds
-        → (j n : ℕ) (a : AltIface) → slice_get (alt ∷ alts) j ≡ Some a → n ≡ length before + j → IsKindFor kinds n a
-    at kind member begins rest zero n a is place =
-        let same : alt ≡ a = cc in
-        let here : n ≡ length before = omega arith in
-        subst (IsKindFor kinds n) same (kind_for before kinds alt kind n member begins (ap (slice_get kinds) here ∙ rest.begins (length before) kind (append_last before kind [])))
-    at kind member begins rest (suc j) n a is place =
-        let long : length (before ++ kind ∷ []) ≡ length before + 1 = length-append before (kind ∷ []) in
-        rest.each j n a is (omega arith)
-
--- ---- alternatives
-
-pub inside_get : {A : Type 0} (xs : List A) (k : ℕ) → k < length xs → (x : A) × (slice_get xs k ≡ Some x)
-inside_get [] k lt = absurd (omega arith)
-inside_get (x ∷ xs) zero lt = (x, refl)
-inside_get (x ∷ xs) (suc k) lt = inside_get xs k (let below : k < length xs = omega arith in below)
-
-counted : {A : Type 0} (xs : List A) (n a : ℕ) → IsMember a (count_from n xs) → a < n + length xs
-counted [] n a m = absurd m
-counted (x ∷ xs) n a m = elim m [
-  | inl e ↦ omega arith
-  | inr m ↦ let lt = counted xs (n + 1) a m in omega arith
-]
-
-alternative_at : (os : List OperandIface) (a : ℕ) → ((k : ℕ) (o : OperandIface) → slice_get os k ≡ Some o → (alt : AltIface) × (slice_get o.alts a ≡ Some alt))
-    → (k : ℕ) (o : OperandIface) → slice_get os k ≡ Some o → slice_get (flat_map (λ (o : OperandIface). option_to_list (slice_get o.alts a)) os) k ≡ slice_get o.alts a
-alternative_at [] a all k o is = cc
-alternative_at (q ∷ os) a all k o is =
-    let first = all 0 q refl in
-    ap (λ x. slice_get (option_to_list x ++ flat_map (λ (o : OperandIface). option_to_list (slice_get o.alts a)) os) k) first.1 ∙ behind (alternative_at os a (λ j. all (suc j))) k is first.0 first.1
-  where
-    behind : ((j : ℕ) (b : OperandIface) → slice_get os j ≡ Some b → slice_get (flat_map (λ (o : OperandIface). option_to_list (slice_get o.alts a)) os) j ≡ slice_get b.alts a) → (k : ℕ) → slice_get (q ∷ os) k ≡ Some o → (alt : AltIface) → slice_get q.alts a ≡ Some alt
-        → slice_get (alt ∷ flat_map (λ (o : OperandIface). option_to_list (slice_get o.alts a)) os) k ≡ slice_get o.alts a
-    behind rest zero is alt e = let same : q ≡ o = cc in sym e ∙ ap (λ (x : OperandIface). slice_get x.alts a) same
-    behind rest (suc k) is alt e = rest k o is
-
-below_first : (os : List OperandIface) (a k : ℕ) (o : OperandIface) → IsMember a (elim os [ [] ↦ 0 ∷ [] | q ∷ qs ↦ count_from 0 q.alts ]) → slice_get os k ≡ Some o
-    → (q : OperandIface) × (slice_get os 0 ≡ Some q) × (a < length q.alts)
-below_first [] a k o m is = cc
-below_first (q ∷ os) a k o m is = (q, refl, let lt = counted q.alts 0 a m in omega arith)
 
 number_letter : (b c d : Bool) → IsMember Number ((if b then Register ∷ [] else []) ++ (if c then Memory ∷ [] else []) ++ (if d then Number ∷ [] else [])) → d ≡ true
 number_letter b c true m = refl
@@ -149,32 +26,25 @@ some_numbers (Some x) h = (x, refl)
 
 -- ---- each shape of an interface is sound
 
-module _ (i : Interface) (interface : IsInterface i) (a : ℕ) (kinds : List Kind) (listed : IsMember a (alternatives_of i)) (made : IsMember kinds (kind_lists [] (alternative_of i a))) where
-  abbrev s : Shape
-  s = record { alternative = a; kinds = kinds }
-
-  alternative : (k : ℕ) (o : OperandIface) → slice_get i.operands k ≡ Some o → (alt : AltIface) × (slice_get o.alts a ≡ Some alt)
-  alternative k o is =
-      let first = below_first i.operands a k o listed is in
-      let counts = interface.counts k 0 o first.0 is first.1 in
-      inside_get o.alts a (let lt = first.2 in omega arith)
-
-  kind_at : (k : ℕ) (o : OperandIface) (alt : AltIface) → slice_get i.operands k ≡ Some o → slice_get o.alts a ≡ Some alt → IsKindFor kinds k alt
-  kind_at k o alt is is_alt = (kinds_of [] (alternative_of i a) kinds made).each k k alt (alternative_at i.operands a alternative k o is ∙ is_alt) (omega arith)
+module _ (i : Interface) (s : Shape) (interface : IsInterface i) (shape : IsShape i s) where
+  kind_at : (k : ℕ) (o : OperandIface) (alt : AltIface) (kind : Kind) → HasOperand i s k o alt kind → IsKindFor s.kinds k alt
+  kind_at k o alt kind has =
+      let in_shape = shape.each k o has.is_operand in
+      let same : in_shape.allowed ≡ alt = (let both : Some in_shape.allowed ≡ Some alt = sym in_shape.is_allowed ∙ has.is_alternative in cc) in
+      subst (IsKindFor s.kinds k) same in_shape.kind
 
   at_shape : (k : ℕ) (o : OperandIface) → slice_get i.operands k ≡ Some o → IsAtShape i s k o
   at_shape k o is =
-      let alt = alternative k o is in
-      let kind = kind_at k o alt.0 is alt.1 in
-      record { allowed = alt.0; kind = kind.kind; has = record { is_operand = is; is_alternative = alt.1; is_kind = kind.here } }
+      let in_shape = shape.each k o is in
+      record { allowed = in_shape.allowed; kind = in_shape.kind.kind; has = record { is_operand = is; is_alternative = in_shape.is_allowed; is_kind = in_shape.kind.here } }
 
-  same_kind : (k : ℕ) (o : OperandIface) (alt : AltIface) (kind : Kind) → HasOperand i s k o alt kind → (f : IsKindFor kinds k alt) → f.kind ≡ kind
+  same_kind : (k : ℕ) (o : OperandIface) (alt : AltIface) (kind : Kind) → HasOperand i s k o alt kind → (f : IsKindFor s.kinds k alt) → f.kind ≡ kind
   same_kind k o alt kind has f = let both : Some f.kind ≡ Some kind = sym f.here ∙ has.is_kind in cc
 
   ties : (k output : ℕ) (o : OperandIface) (alt : AltIface) (kind : Kind) → HasOperand i s k o alt kind → alt.tied ≡ Some output → IsTied i s k output o kind
   ties k output o alt kind has tied =
-      let t = interface.ties k a output o alt (record { is_operand = has.is_operand; is_alternative = has.is_alternative }) tied in
-      let f = kind_at k o alt has.is_operand has.is_alternative in
+      let t = interface.ties k s.alternative output o alt (record { is_operand = has.is_operand; is_alternative = has.is_alternative }) tied in
+      let f = kind_at k o alt kind has in
       record {
         before = t.before;
         operand = t.to.operand;
@@ -186,22 +56,19 @@ module _ (i : Interface) (interface : IsInterface i) (a : ℕ) (kinds : List Kin
 
   numbers : (k : ℕ) (o : OperandIface) (alt : AltIface) → HasOperand i s k o alt Number → alt.tied ≡ None → IsRange o alt
   numbers k o alt has untied =
-      let f = kind_at k o alt has.is_operand has.is_alternative in
+      let f = kind_at k o alt Number has in
       let member : IsMember Number (letter_kinds alt) = subst (λ x. IsMember x (letter_kinds alt)) (same_kind k o alt Number has f) (f.untied untied) in
       let range = some_numbers alt.numbers (number_letter (alt.pair || not (alt.regs.0 == 0)) alt.mem (is_some alt.numbers) member) in
-      record { range = range.0; is_range = range.1; number = interface.numbers k a o alt range.0 (record { is_operand = has.is_operand; is_alternative = has.is_alternative }) range.1 }
+      record { range = range.0; is_range = range.1; number = interface.numbers k s.alternative o alt range.0 (record { is_operand = has.is_operand; is_alternative = has.is_alternative }) range.1 }
 
   made_sound : IsSound i s
   made_sound = record {
     few = interface.few;
     each = at_shape;
     ties = ties;
-    early = λ k o alt kind has early. interface.early k a o alt (record { is_operand = has.is_operand; is_alternative = has.is_alternative }) early;
+    early = λ k o alt kind has early. interface.early k s.alternative o alt (record { is_operand = has.is_operand; is_alternative = has.is_alternative }) early;
     numbers = numbers;
   }
 
 pub sound : (i : Interface) (s : Shape) → IsInterface i → IsMember s (shapes_of i) → IsSound i s
-sound i s interface m =
-    let f = from_flat (λ a. map (λ kinds. record { alternative = a; kinds = kinds }) (kind_lists [] (alternative_of i a))) s (alternatives_of i) m in
-    let g = from_map (λ kinds. record { alternative = f.from; kinds = kinds }) s (kind_lists [] (alternative_of i f.from)) f.here in
-    subst (IsSound i) (sym g.image) (made_sound i interface f.from g.from f.member g.member)
+sound i s interface m = made_sound i s interface (is_shape i s interface m)

@@ -5,7 +5,7 @@ use Rattle.std.specs.Fmt.{signed_decimal, digits, digits_onto, digit_glyph}
 use Rattle.std.specs.Option.{option_map, option_and_then}
 use Rattle.asm_core.specs.Comments.{uncommented}
 use Rattle.asm_core.proofs.ReadingLaws.CommentsAlike.{uncommented-alike, expansion_of-alike}
-use Rattle.asm_core.specs.Placement.{spot_of, IsAllowed}
+use Rattle.asm_core.specs.Placement.{spot_of, Fits, IsAllowed}
 use Rattle.asm_core.specs.WellFormed.{IsInterface}
 use Rattle.asm_core.specs.Pieces.{piece_code, ArePieces}
 use Rattle.asm_core.proofs.ReadingLaws.PiecesApart.{are_apart}
@@ -17,6 +17,7 @@ use Rattle.asm_core.specs.Reading.Facts.{facts_of, slice_of, atom_of}
 use Rattle.asm_core.specs.Reading.Line.{readings_of, lines_with, template_raws, lines_under}
 use Rattle.asm_core.specs.Reading.Text.{sign_code, runs_of, atom_with, atom_of_run, text_raws, code_of_text}
 use Rattle.asm_core.specs.declared.reading.Sign.{Sign}
+use Rattle.asm_core.specs.Reading.UnderShape.{LettersFit, IsLettered}
 use Rattle.asm_core.specs.Reading.Placed.{is_apart, code_under, ReadsWhole}
 use Rattle.asm_core.specs.Expansion.{name_of, register_text, number_text, registers_text, disp_text, form_text, memory_text, printed, operand_text, expansion_of}
 use Rattle.asm_core.proofs.ReadingLaws.CommentsLeft.{IsSome_text, text_or, GiveText, outside-signs}
@@ -33,7 +34,9 @@ use Rattle.asm_core.specs.declared.placement.Base.{Base}
 use Rattle.asm_core.specs.declared.placement.Form.{Form}
 use Rattle.asm_core.specs.declared.placement.Spot.{Spot}
 use Rattle.asm_core.specs.declared.placement.Placement.{Placement}
+use Rattle.asm_core.specs.declared.shape.Kind.{Kind}
 use Rattle.asm_core.specs.declared.shape.Shape.{Shape}
+use Rattle.asm_core.specs.declared.interface.AltIface.{AltIface}
 use Rattle.asm_core.specs.declared.interface.OperandIface.{OperandIface}
 use Rattle.asm_core.specs.declared.interface.Interface.{Interface}
 use Rattle.asm_core.specs.declared.reading.Atom.{Atom}
@@ -118,23 +121,23 @@ module _ (i : Interface) (p : Placement) where
       by None e = some_at 63 [] _ refl
       by (Some text) e = some_printed o.size m (spot_of p k) text e
 
-  give_text : (unique : ℕ) → GiveText i p unique
+  pub give_text : (unique : ℕ) → GiveText i p unique
   give_text unique = record { number = some_decimal unique; each = λ k m. some_operand k m (slice_get i.operands k) }
 
 module _ (rows : List NameRow) (i : Interface) (s : Shape) (is : IsInterface i) where
-  module _ (p : Placement) (unique : ℕ) (allowed : IsAllowed i s p) where
+  module _ (p : Placement) (unique : ℕ) (lettered : IsLettered i s p) where
     hole_atom : (k : ℕ) (m : Modifier) (at : ℕ) (text : List ℕ) → operand_text i p k m ≡ Some text
         → atom_of_run (facts_of i s) (run_of i p unique (Piece.Hole k m at)) ≡ placed_atom p (atom_of (facts_of i s) (Piece.Hole k m at))
     hole_atom k m at text e =
-        let low = operand_below i s is p allowed k m text e in
-        rw (ne_eqb k 254 (λ same. absurd (omega (arith, same))), e) (ap (atom_with (Piece.Hole k Modifier.Plain 0)) (hole_back i s is p allowed k m text e))
+        let low = operand_below i s is p lettered k m text e in
+        rw (ne_eqb k 254 (λ same. absurd (omega (arith, same))), e) (ap (atom_with (Piece.Hole k Modifier.Plain 0)) (hole_back i s is p lettered k m text e))
 
     atom-named : (x : Piece) → IsNamed i p unique x → atom_of_run (facts_of i s) (run_of i p unique x) ≡ placed_atom p (atom_of (facts_of i s) x)
     atom-named (Piece.Byte b at) named = refl
     atom-named (Piece.Unique at) named = refl
     atom-named (Piece.Hole k m at) named = hole_atom k m at named.0 named.1
 
-    atoms-named : (xs : List Piece) → AreNamed i p unique xs → map (atom_of_run (facts_of i s)) (map (run_of i p unique) xs) ≡ map (placed_atom p) (map (atom_of (facts_of i s)) xs)
+    pub atoms-named : (xs : List Piece) → AreNamed i p unique xs → map (atom_of_run (facts_of i s)) (map (run_of i p unique) xs) ≡ map (placed_atom p) (map (atom_of (facts_of i s)) xs)
     atoms-named [] named = refl
     atoms-named (x ∷ xs) named = rw (atom-named x named.0, atoms-named xs named.1) refl
 
@@ -161,10 +164,36 @@ module _ (rows : List NameRow) (i : Interface) (s : Shape) (is : IsInterface i) 
         let raws = raws_of atom_code atoms in
         rw (text_atoms ps text apart e) (code-placed p rows atoms) ∙ ap (code_under p) (lines_are raws (nat_lt 512 (instruction_count raws)) lines read)
 
-  -- Where what stands outside comments stands apart, the lines under a shape are those of the text under each allowed placement.
-  pub reads_whole : (ps : List Piece) (lines : Lines) → is_apart (map piece_code (uncommented piece_code ps)) ≡ true → lines_under rows i s ps ≡ Ok lines → ReadsWhole rows i s ps lines
-  reads_whole ps lines apart read = record { each = λ p unique text allowed small e. text_code p unique allowed ps text lines apart read e }
+  -- Where what stands outside comments stands apart, the lines under a shape are those of the text under each placement by letters.
+  pub text_lettered : (p : Placement) (unique : ℕ) (text : List Sign) (ps : List Piece) (lines : Lines) → IsLettered i s p → is_apart (map piece_code (uncommented piece_code ps)) ≡ true
+      → lines_under rows i s ps ≡ Ok lines → expansion_of i p unique ps ≡ Ok text → code_of_text rows i s text ≡ code_under p lines
+  text_lettered p unique text ps lines lettered apart read e = text_code p unique lettered ps text lines apart read e
+
+-- where an alternative lets an operand be, its letters do
+letters_fit : (i : Interface) (o : OperandIface) (alt : AltIface) (kind : Kind) (spot : Spot) → Fits i o alt kind spot → LettersFit o alt kind spot
+letters_fit i o alt Kind.Register (Spot.Register r) fits = fits.0
+letters_fit i o alt Kind.Register Spot.Pair fits = fits.0
+letters_fit i o alt Kind.Register (Spot.Memory f) fits = absurd fits
+letters_fit i o alt Kind.Register (Spot.Number n) fits = absurd fits
+letters_fit i o alt Kind.Memory (Spot.Memory f) fits = fits.0
+letters_fit i o alt Kind.Memory (Spot.Register r) fits = absurd fits
+letters_fit i o alt Kind.Memory Spot.Pair fits = absurd fits
+letters_fit i o alt Kind.Memory (Spot.Number n) fits = absurd fits
+letters_fit i o alt Kind.Number (Spot.Number n) fits = fits
+letters_fit i o alt Kind.Number (Spot.Register r) fits = absurd fits
+letters_fit i o alt Kind.Number Spot.Pair fits = absurd fits
+letters_fit i o alt Kind.Number (Spot.Memory f) fits = absurd fits
+
+-- an allowed placement is one by letters
+pub is_lettered : (i : Interface) (s : Shape) (p : Placement) → IsAllowed i s p → IsLettered i s p
+is_lettered i s p allowed = record {
+  count = allowed.count;
+  fits = λ k o alt kind has untied. letters_fit i o alt kind (spot_of p k) (allowed.fits k o alt kind has untied);
+  ties = allowed.ties;
+}
 
 -- The lines of a template's pieces under a shape are those of the text under each allowed placement.
 pub pieces_read_whole : (rows : List NameRow) (i : Interface) (s : Shape) (ps : List Piece) (lines : Lines) → IsInterface i → ArePieces (length i.operands) ps → lines_under rows i s ps ≡ Ok lines → ReadsWhole rows i s ps lines
-pieces_read_whole rows i s ps lines is pieces read = reads_whole rows i s is ps lines (are_apart (length i.operands) ps pieces) read
+pieces_read_whole rows i s ps lines is pieces read = record {
+  each = λ p unique text allowed small e. text_lettered rows i s is p unique text ps lines (is_lettered i s p allowed) (are_apart (length i.operands) ps pieces) read e;
+}

@@ -77,7 +77,7 @@ module _ (p : Placement) where
       )
       (if-map (placed_reading p) ((length xs == n) || is_blank (slice_index cs n)) (line_of_operands rows before (take n cs) place (all_some os)) Reading.Unread)
 
-  line_of-placed : (rows : List NameRow) (goal : List ℕ → Option (Option ℕ)) (before : List Prefix) (place : ℕ) (xs : List Atom)
+  pub line_of-placed : (rows : List NameRow) (goal : List ℕ → Option (Option ℕ)) (before : List Prefix) (place : ℕ) (xs : List Atom)
       → line_of rows goal before 0 (placed_all p xs) ≡ placed_reading p (line_of rows goal before place xs)
   unfolding line_of
   line_of-placed rows goal before place xs = rw (codes-placed p xs) (line_at-placed rows goal before place xs (name_len (map atom_code xs)))
@@ -145,7 +145,7 @@ module _ (p : Placement) where
   inst_of-placed : (count : ℕ) (l : Line) → inst_of count (placed_line p l) ≡ inst_under p (sym_of count l)
   inst_of-placed count l = rw (args-placed count 0 l.operands, args-placed count 1 l.operands, args-placed count 2 l.operands) refl
 
-  reading-placed : (count : ℕ) (r : Reading) → text_inst count (placed_reading p r) ≡ option_map (inst_under p) (inst_of_reading count r)
+  pub reading-placed : (count : ℕ) (r : Reading) → text_inst count (placed_reading p r) ≡ option_map (inst_under p) (inst_of_reading count r)
   reading-placed count (Reading.Read l) = ap Some (inst_of-placed count l)
   reading-placed count Reading.LeftOut = refl
   reading-placed count Reading.Unread = refl

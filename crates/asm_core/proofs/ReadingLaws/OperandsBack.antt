@@ -6,12 +6,13 @@ use Rattle.std.proofs.lemmas.Option.{slice_get_within}
 use Rattle.std.specs.Fmt.{signed_decimal}
 use Rattle.std.specs.Option.{option_map, option_and_then}
 use Rattle.asm_core.specs.Reg.{IsIn, reg_number}
-use Rattle.asm_core.specs.Placement.{spot_of, HasOperand, Fits, IsAllowed, tie_root}
+use Rattle.asm_core.specs.Placement.{spot_of, HasOperand, tie_root}
 use Rattle.asm_core.specs.Placement as placement
 use Rattle.asm_core.specs.WellFormed.{HasNumber, IsInterface}
 use Rattle.asm_core.specs.Reading.Written.{register_named}
 use Rattle.asm_core.specs.Reading.Facts.{only_register, fixed_register, allows_byte_names, facts_from, alternative_at, facts_with, facts_of, slice_of, is_byte_slice, place_of, is_fixed_cl, register_leaf, disp_of, number_leaf, memory_leaf, leaf_by, leaf_of}
 use Rattle.asm_core.specs.Reading.Text.{read_register, read_number, form_read, read_by, leaf_read}
+use Rattle.asm_core.specs.Reading.UnderShape.{LettersFit, IsLettered}
 use Rattle.asm_core.specs.Reading.Placed.{placed_place, placed_disp, spot_place, spot_disp, IsWordNumber}
 use Rattle.asm_core.specs.Expansion.{name_of, register_text, number_text, form_text, memory_text, printed, operand_text}
 use Rattle.asm_core.proofs.ReadingLaws.OperandsPlaced.{placed_leaf}
@@ -287,24 +288,24 @@ number_word o alt n (Some range) e has is =
     record { low = omega (arith, ints, from, within.0); high = omega (arith, ints, upto, within.1) }
 
 -- what an untied operand's letters allow is what its facts say
-fits_facts : (i : Interface) (o : OperandIface) (alt : AltIface) (kind : Kind) (spot : Spot) (size root : ℕ) → HasNumbers o alt → Fits i o alt kind spot
+fits_facts : (o : OperandIface) (alt : AltIface) (kind : Kind) (spot : Spot) (size root : ℕ) → HasNumbers o alt → LettersFit o alt kind spot
     → FitsFacts (record { kind = kind; size = size; known = o.known; fixed = fixed_register alt; has_byte_names = allows_byte_names alt; root = root }) kind spot
-fits_facts i o alt Kind.Register (Spot.Register r) size root has fits = (fixed_is alt r fits.0, byte_names_is alt r fits.0)
-fits_facts i o alt Kind.Register Spot.Pair size root has fits = (fixed_pair alt fits.0, byte_names_pair alt fits.0)
-fits_facts i o alt Kind.Register (Spot.Memory f) size root has fits = absurd fits
-fits_facts i o alt Kind.Register (Spot.Number n) size root has fits = absurd fits
-fits_facts i o alt Kind.Memory (Spot.Memory f) size root has fits = fits.0
-fits_facts i o alt Kind.Memory (Spot.Register r) size root has fits = absurd fits
-fits_facts i o alt Kind.Memory Spot.Pair size root has fits = absurd fits
-fits_facts i o alt Kind.Memory (Spot.Number n) size root has fits = absurd fits
-fits_facts i o alt Kind.Number (Spot.Number n) size root has fits = (number_word o alt n alt.numbers refl has fits, known_is o.known fits.is_known)
+fits_facts o alt Kind.Register (Spot.Register r) size root has fits = (fixed_is alt r fits, byte_names_is alt r fits)
+fits_facts o alt Kind.Register Spot.Pair size root has fits = (fixed_pair alt fits, byte_names_pair alt fits)
+fits_facts o alt Kind.Register (Spot.Memory f) size root has fits = absurd fits
+fits_facts o alt Kind.Register (Spot.Number n) size root has fits = absurd fits
+fits_facts o alt Kind.Memory (Spot.Memory f) size root has fits = fits
+fits_facts o alt Kind.Memory (Spot.Register r) size root has fits = absurd fits
+fits_facts o alt Kind.Memory Spot.Pair size root has fits = absurd fits
+fits_facts o alt Kind.Memory (Spot.Number n) size root has fits = absurd fits
+fits_facts o alt Kind.Number (Spot.Number n) size root has fits = (number_word o alt n alt.numbers refl has fits, known_is o.known fits.is_known)
   where
     known_is : (known : Option ℤ) → ((x : ℤ) → known ≡ Some x → n ≡ x) → IsKnown known n
     known_is None h = tt
     known_is (Some m) h = sym (h m refl)
-fits_facts i o alt Kind.Number (Spot.Register r) size root has fits = absurd fits
-fits_facts i o alt Kind.Number Spot.Pair size root has fits = absurd fits
-fits_facts i o alt Kind.Number (Spot.Memory f) size root has fits = absurd fits
+fits_facts o alt Kind.Number (Spot.Register r) size root has fits = absurd fits
+fits_facts o alt Kind.Number Spot.Pair size root has fits = absurd fits
+fits_facts o alt Kind.Number (Spot.Memory f) size root has fits = absurd fits
 
 module _ (i : Interface) (s : Shape) where
   root_is : (k : ℕ) (o : OperandIface) (found : Option AltIface) → slice_get i.operands k ≡ Some o → slice_get o.alts s.alternative ≡ found
@@ -342,13 +343,13 @@ module _ (i : Interface) (s : Shape) where
     root_untied : ra.tied ≡ None
     root_untied = by_alternative (slice_get o.alts s.alternative) refl
 
-  -- the facts of an operand hold where it is allowed to be
+  -- the facts of an operand hold where it may be
   record Hold (p : Placement) (k : ℕ) (o : OperandIface) (fact : OperandFacts) : Type 0 where
     size : fact.size ≡ o.size
     spot : spot_of p k ≡ spot_of p fact.root
     fits : FitsFacts fact fact.kind (spot_of p fact.root)
 
-  module _ (is : IsInterface i) (p : Placement) (allowed : IsAllowed i s p) (k : ℕ) (o : OperandIface) (there : slice_get i.operands k ≡ Some o) where
+  module _ (is : IsInterface i) (p : Placement) (lettered : IsLettered i s p) (k : ℕ) (o : OperandIface) (there : slice_get i.operands k ≡ Some o) where
     hold_from : (ro : Option OperandIface) (ra : Option AltIface) (kind : Option Kind) (fact : OperandFacts)
         → slice_get i.operands (tie_root i s k) ≡ ro → alternative_at ro s.alternative ≡ ra → slice_get s.kinds (tie_root i s k) ≡ kind
         → facts_from o.size (tie_root i s k) ro ra kind ≡ Some fact → Hold p k o fact
@@ -359,8 +360,8 @@ module _ (i : Interface) (s : Shape) where
         let root = tie_root i s k in
         let same : (record { kind = kind; size = o.size; known = ro.known; fixed = fixed_register alt; has_byte_names = allows_byte_names alt; root = root }) ≡ fact = cc in
         let has : HasNumbers ro alt = λ range e. is.numbers root s.alternative ro alt range (record { is_operand = eo; is_alternative = ea }) e in
-        let fits : Fits i ro alt kind (spot_of p root) = allowed.fits root ro alt kind (record { is_operand = eo; is_alternative = ea; is_kind = ek }) (root_untied is k o there ro alt eo ea) in
-        subst (λ f. Hold p k o f) same (record { size = refl; spot = allowed.ties k; fits = fits_facts i ro alt kind (spot_of p root) o.size root has fits })
+        let fits : LettersFit ro alt kind (spot_of p root) = lettered.fits root ro alt kind (record { is_operand = eo; is_alternative = ea; is_kind = ek }) (root_untied is k o there ro alt eo ea) in
+        subst (λ f. Hold p k o f) same (record { size = refl; spot = lettered.ties k; fits = fits_facts ro alt kind (spot_of p root) o.size root has fits })
 
     facts_hold : (fact : OperandFacts) → facts_of i s k ≡ Some fact → Hold p k o fact
     unfolding facts_of
@@ -368,11 +369,11 @@ module _ (i : Interface) (s : Shape) where
         hold_from (slice_get i.operands (tie_root i s k)) (alternative_at (slice_get i.operands (tie_root i s k)) s.alternative) (slice_get s.kinds (tie_root i s k)) fact refl refl refl
         (subst (λ q. facts_with i s (tie_root i s k) q ≡ Some fact) there e)
 
-  module _ (is : IsInterface i) (p : Placement) (allowed : IsAllowed i s p) (k : ℕ) (m : Modifier) (text : List ℕ) where
+  module _ (is : IsInterface i) (p : Placement) (lettered : IsLettered i s p) (k : ℕ) (m : Modifier) (text : List ℕ) where
     hole_with : (o : OperandIface) → slice_get i.operands k ≡ Some o → printed o.size m (spot_of p k) ≡ Some text → (fact : Option OperandFacts) → facts_of i s k ≡ fact → leaf_read fact text ≡ placed_leaf p (leaf_of fact m)
     hole_with o there e None f = refl
     hole_with o there e (Some fact) f =
-        let hold = facts_hold is p allowed k o there fact f in
+        let hold = facts_hold is p lettered k o there fact f in
         let printed_there : printed fact.size m (spot_of p fact.root) ≡ Some text = rw (hold.size, ← hold.spot) e in
         leaf_back p fact fact.kind m (spot_of p fact.root) text refl hold.fits printed_there
 

@@ -82,12 +82,12 @@ module _ (i : Interface) (p : Placement) (unique : ℕ) where
   AreNamed (x ∷ xs) = IsNamed x × AreNamed xs
 
   -- a result, where there is one, is that
-  abbrev IsThat : Result (List Sign) ℕ → List Sign → Type 0
+  abbrev pub IsThat : Result (List Sign) ℕ → List Sign → Type 0
   IsThat (Ok xs) ys = xs ≡ ys
   IsThat (Err k) ys = Unit {0}
 
   -- a fact, where there is a result
-  abbrev Where : Result (List Sign) ℕ → Type 0 → Type 0
+  abbrev pub Where : Result (List Sign) ℕ → Type 0 → Type 0
   Where (Ok xs) P = P
   Where (Err k) P = Unit {0}
 
@@ -97,12 +97,12 @@ module _ (i : Interface) (p : Placement) (unique : ℕ) where
   hole-that false k m at None e = tt
   hole-that inside k m at (Some t) e = refl
 
-  piece-that : (inside : Bool) (x : Piece) → IsThat (piece_text i p unique inside x) (piece_signs i p unique x)
+  pub piece-that : (inside : Bool) (x : Piece) → IsThat (piece_text i p unique inside x) (piece_signs i p unique x)
   piece-that inside (Piece.Byte b at) = refl
   piece-that inside (Piece.Unique at) = refl
   piece-that inside (Piece.Hole k m at) = hole-that inside k m at (operand_text i p k m) refl
 
-  onto-that : (a b : Result (List Sign) ℕ) (xs ys : List Sign) → IsThat a xs → IsThat b ys → IsThat (onto_text a b) (xs ++ ys)
+  pub onto-that : (a b : Result (List Sign) ℕ) (xs ys : List Sign) → IsThat a xs → IsThat b ys → IsThat (onto_text a b) (xs ++ ys)
   onto-that (Err k) b xs ys ha hb = tt
   onto-that (Ok as') (Err k) xs ys ha hb = tt
   onto-that (Ok us) (Ok vs) xs ys ha hb = rw (ha, hb) refl
@@ -114,7 +114,7 @@ module _ (i : Interface) (p : Placement) (unique : ℕ) where
       onto-that (piece_text i p unique (is_comment place (piece_code x) (map piece_code ps)) x) (expansion_from i p unique (place_behind place (piece_code x) (map piece_code ps)) ps) _ _
       (piece-that (is_comment place (piece_code x) (map piece_code ps)) x) (expansion-that (place_behind place (piece_code x) (map piece_code ps)) ps)
 
-  that_is : (r : Result (List Sign) ℕ) (text ys : List Sign) → IsThat r ys → r ≡ Ok text → text ≡ ys
+  pub that_is : (r : Result (List Sign) ℕ) (text ys : List Sign) → IsThat r ys → r ≡ Ok text → text ≡ ys
   that_is (Ok xs) text ys h e = cc
   that_is (Err k) text ys h e = cc
 
@@ -127,12 +127,12 @@ module _ (i : Interface) (p : Placement) (unique : ℕ) where
   hole-named k m None e = tt
   hole-named k m (Some t) e = (t, e)
 
-  piece-named : (x : Piece) → Where (piece_text i p unique false x) (IsNamed x)
+  pub piece-named : (x : Piece) → Where (piece_text i p unique false x) (IsNamed x)
   piece-named (Piece.Byte b at) = tt
   piece-named (Piece.Unique at) = tt
   piece-named (Piece.Hole k m at) = hole-named k m (operand_text i p k m) refl
 
-  onto-named : (a b : Result (List Sign) ℕ) (P Q : Type 0) → Where a P → Where b Q → Where (onto_text a b) (P × Q)
+  pub onto-named : (a b : Result (List Sign) ℕ) (P Q : Type 0) → Where a P → Where b Q → Where (onto_text a b) (P × Q)
   onto-named (Err k) b P Q ha hb = tt
   onto-named (Ok us) (Err k) P Q ha hb = tt
   onto-named (Ok us) (Ok vs) P Q ha hb = (ha, hb)
@@ -153,7 +153,7 @@ module _ (i : Interface) (p : Placement) (unique : ℕ) where
       let behind = place_behind place (piece_code x) (map piece_code ps) in
       named-if (is_comment place (piece_code x) (map piece_code ps)) x (outside_comments piece_code behind ps) (expansion_from i p unique behind ps) (named-where behind ps)
 
-  where_ok : (r : Result (List Sign) ℕ) (text : List Sign) (P : Type 0) → Where r P → r ≡ Ok text → P
+  pub where_ok : (r : Result (List Sign) ℕ) (text : List Sign) (P : Type 0) → Where r P → r ≡ Ok text → P
   where_ok (Ok xs) text P h e = h
   where_ok (Err k) text P h e = cc
 
