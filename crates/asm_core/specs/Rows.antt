@@ -1,7 +1,8 @@
 -- What each instruction does: its row of the table, and one step of it.
-use Rattle.std.specs.Prelude.{◌≡◌, ℕ, ◌-◌, ◌==◌, ◌&&◌, Bool, false, if◌then◌else◌, List, length, Option, None, Some, slice_get}
+use Rattle.std.specs.Prelude.{◌≡◌, ℕ, ◌==◌, ◌&&◌, Bool, false, if◌then◌else◌, List, length, Option, None, Some, slice_get}
 use Rattle.asm_core.specs.MicroOps.{Stepped, arg_at, row_ended}
-use Rattle.asm_core.specs.Table.{row_of, is_shift, no_shift_row, self_row}
+use Rattle.asm_core.specs.Table.{row_of, is_shift, self_row}
+use Rattle.asm_core.specs.Table.Bits.{no_shift_row}
 use Rattle.asm_core.specs.Reg.{reg_number}
 use Rattle.asm_core.specs.Memory.{modulo}
 use Rattle.asm_core.specs.Entries.{slice_number}
@@ -51,7 +52,7 @@ same_register first second = false
 -- make a difference.
 abbrev pub entry_row : Sym → List MicroOp
 entry_row s =
-    if is_shift s.op && is_zero_count (slice_get s.args 0) then no_shift_row (length s.args - 1)
+    if is_shift s.op && is_zero_count (slice_get s.args 0) then no_shift_row (length s.args)
     else if same_register (slice_get s.args 0) (slice_get s.args 1) then self_row s.op (line_row s)
     else line_row s
 
