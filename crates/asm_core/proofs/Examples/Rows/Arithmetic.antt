@@ -1,7 +1,7 @@
 -- Arithmetic and logic.
 use Rattle.std.proofs.Common.{◌≡◌, List, [], ◌∷◌, refl}
 use Rattle.asm_core.specs.Entries.{origins}
-use Rattle.asm_core.proofs.Examples.Rows.Told.{line, told, of, in_register, zeroth, first, memory, number, bytes, flag, load, store, undefined, six_flags, four_undefined}
+use Rattle.asm_core.proofs.Examples.Rows.Told.{line, told, of, in_register, zeroth, memory, number, bytes, flag, load, store, undefined, six_flags, four_undefined}
 use Rattle.asm_core.specs.declared.reg.Reg.TheVariants.{Eax, Edx}
 use Rattle.asm_core.specs.declared.reg.Slice.TheVariants.{Low8, High8, Low16, All}
 use Rattle.asm_core.specs.declared.flag.Flag.TheVariants.{Cf, Pf, Af, Zf, Sf, Of}

@@ -1,5 +1,5 @@
 -- Moves and jumps.
-use Rattle.std.proofs.Common.{◌≡◌, List, [], ◌∷◌, refl}
+use Rattle.std.proofs.Common.{◌≡◌, [], ◌∷◌, refl}
 use Rattle.asm_core.specs.Entries.{origins}
 use Rattle.asm_core.proofs.Examples.Rows.Told.{line, told, of, in_register, zeroth, first, memory, bytes, copy, load, store}
 use Rattle.asm_core.specs.declared.cond.Cond.{Cond}
