@@ -110,31 +110,31 @@ undefined_middle_flags rest =
 
 -- ---- repeated string instructions
 
-abbrev as_temporary : MicroOp → MicroOp
+abbrev pub as_temporary : MicroOp → MicroOp
 as_temporary op = record op { target = Target.Temporary }
 
-abbrev guarded_op : ℕ → ℕ → Target → List MicroOp → List MicroOp
+abbrev pub guarded_op : ℕ → ℕ → Target → List MicroOp → List MicroOp
 guarded_op n k (Target.Site site) rest = op3 (Target.Site site) Function.Pick (Input.Earlier n) (Input.Earlier k) (Input.Kept site) ∷ rest
 guarded_op n k target rest = rest
 
 -- each write of a row from its k-th micro-operation on, made where the instruction has a turn to do (n), else left
-abbrev guarded : ℕ → ℕ → List MicroOp → List MicroOp
+abbrev pub guarded : ℕ → ℕ → List MicroOp → List MicroOp
 guarded n k [] = []
 guarded n k (op ∷ ops) = guarded_op n k op.target (guarded n (k + 1) ops)
 
-abbrev zf_or : ℕ → Target → ℕ → ℕ
+abbrev pub zf_or : ℕ → Target → ℕ → ℕ
 zf_or k (Target.Site (Site.Flag Flag.Zf)) rest = k
 zf_or k target rest = rest
 
 -- the number, from k on, of the micro-operation that gives ZF
-abbrev zf_from : ℕ → List MicroOp → ℕ
+abbrev pub zf_from : ℕ → List MicroOp → ℕ
 zf_from k [] = k
 zf_from k (op ∷ ops) = zf_or k op.target (zf_from (k + 1) ops)
 
 -- One turn of a repeated string instruction whose row is of n micro-operations. It is over where ecx is 0. Else the row's
 -- writes are made, ecx falls by 1, and the instruction is done once more where `stay` says so. Where it stays by the
 -- compared values, each thing written depends on them too, as they tell how many turns there are.
-abbrev turn_of : Input → MicroOp → List MicroOp → List MicroOp
+abbrev pub turn_of : Input → MicroOp → List MicroOp → List MicroOp
 turn_of compared stay row =
     map as_temporary row
     ++ op2 Target.Turn Function.Value (reg Reg.Ecx Bytes.All) compared ∷ []

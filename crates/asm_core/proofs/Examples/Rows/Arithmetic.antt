@@ -42,8 +42,8 @@ itself = of (zeroth All) ∷ []
 test : told (line Op.Test L (zeroth All ∷ zeroth All ∷ [])) ≡ record {
   reads = of (zeroth All) ∷ of (zeroth All) ∷ Source.Undefined ∷ [];
   writes =
-    flag Cf [] ∷ flag Pf (of (zeroth All) ∷ of (zeroth All) ∷ []) ∷ flag Af undefined ∷ flag Zf (of (zeroth All) ∷ of (zeroth All) ∷ [])
-    ∷ flag Sf (of (zeroth All) ∷ of (zeroth All) ∷ []) ∷ flag Of [] ∷ [];
+      flag Cf [] ∷ flag Pf (of (zeroth All) ∷ of (zeroth All) ∷ []) ∷ flag Af undefined ∷ flag Zf (of (zeroth All) ∷ of (zeroth All) ∷ [])
+      ∷ flag Sf (of (zeroth All) ∷ of (zeroth All) ∷ []) ∷ flag Of [] ∷ [];
   uses = [];
   accesses = [];
 }
@@ -84,9 +84,9 @@ xor_itself = refl
 xor_parts : told (line Op.Xor B (zeroth Low8 ∷ zeroth High8 ∷ [])) ≡ record {
   reads = of (zeroth Low8) ∷ of (zeroth High8) ∷ Source.Undefined ∷ [];
   writes =
-    bytes (zeroth High8) 0 1 (of (zeroth Low8) ∷ of (zeroth High8) ∷ []) ∷ flag Cf []
-    ∷ flag Pf (of (zeroth Low8) ∷ of (zeroth High8) ∷ []) ∷ flag Af undefined
-    ∷ flag Zf (of (zeroth Low8) ∷ of (zeroth High8) ∷ []) ∷ flag Sf (of (zeroth Low8) ∷ of (zeroth High8) ∷ []) ∷ flag Of [] ∷ [];
+      bytes (zeroth High8) 0 1 (of (zeroth Low8) ∷ of (zeroth High8) ∷ []) ∷ flag Cf []
+      ∷ flag Pf (of (zeroth Low8) ∷ of (zeroth High8) ∷ []) ∷ flag Af undefined
+      ∷ flag Zf (of (zeroth Low8) ∷ of (zeroth High8) ∷ []) ∷ flag Sf (of (zeroth Low8) ∷ of (zeroth High8) ∷ []) ∷ flag Of [] ∷ [];
   uses = [];
   accesses = [];
 }
@@ -123,8 +123,8 @@ factors = of (zeroth Low16) ∷ of (in_register Eax Low16) ∷ []
 mul : told (line Op.Mul W (zeroth Low16 ∷ [])) ≡ record {
   reads = of (zeroth Low16) ∷ of (in_register Eax Low16) ∷ Source.Undefined ∷ [];
   writes =
-    bytes (in_register Eax Low16) 0 2 factors ∷ bytes (in_register Edx Low16) 0 2 factors
-    ∷ flag Cf factors ∷ four_undefined (flag Of factors ∷ []);
+      bytes (in_register Eax Low16) 0 2 factors ∷ bytes (in_register Edx Low16) 0 2 factors
+      ∷ flag Cf factors ∷ four_undefined (flag Of factors ∷ []);
   uses = [];
   accesses = [];
 }

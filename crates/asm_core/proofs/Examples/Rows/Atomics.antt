@@ -58,8 +58,8 @@ matched = of memory ∷ of eax ∷ of edx ∷ []
 cmpxchg8b : told (line Op.Cmpxchg8b Q (memory ∷ [])) ≡ record {
   reads = of memory ∷ of eax ∷ of ebx ∷ of ecx ∷ of edx ∷ [];
   writes =
-    bytes memory 0 8 (of memory ∷ of eax ∷ of ebx ∷ of ecx ∷ of edx ∷ []) ∷ bytes edx 0 4 matched ∷ bytes eax 0 4 matched
-    ∷ flag Zf matched ∷ [];
+      bytes memory 0 8 (of memory ∷ of eax ∷ of ebx ∷ of ecx ∷ of edx ∷ []) ∷ bytes edx 0 4 matched ∷ bytes eax 0 4 matched
+      ∷ flag Zf matched ∷ [];
   uses = [];
   accesses = load memory 8 ∷ store memory 8 ∷ [];
 }

@@ -77,8 +77,8 @@ xchg = refl
 bswap : told (line Op.Bswap L (zeroth All ∷ [])) ≡ record {
   reads = of (zeroth All) ∷ [];
   writes =
-    copy (zeroth All) 0 1 (of (zeroth All)) 3 ∷ copy (zeroth All) 1 1 (of (zeroth All)) 2
-    ∷ copy (zeroth All) 2 1 (of (zeroth All)) 1 ∷ copy (zeroth All) 3 1 (of (zeroth All)) 0 ∷ [];
+      copy (zeroth All) 0 1 (of (zeroth All)) 3 ∷ copy (zeroth All) 1 1 (of (zeroth All)) 2
+      ∷ copy (zeroth All) 2 1 (of (zeroth All)) 1 ∷ copy (zeroth All) 3 1 (of (zeroth All)) 0 ∷ [];
   uses = [];
   accesses = [];
 }

@@ -52,11 +52,11 @@ cmps = refl
 rep_movs : told (repeated Repeat.Rep (line Op.Movs L [])) ≡ record {
   reads = of (element Esi) ∷ of (element Edi) ∷ of ecx ∷ of esi ∷ of edi ∷ up_or_down ∷ [];
   writes =
-    bytes (element Edi) 0 4 (of (element Esi) ∷ of (element Edi) ∷ of ecx ∷ [])
-    ∷ bytes esi 0 4 (of ecx ∷ of esi ∷ up_or_down ∷ [])
-    ∷ bytes edi 0 4 (of ecx ∷ of edi ∷ up_or_down ∷ [])
-    ∷ bytes ecx 0 4 (of ecx ∷ [])
-    ∷ [];
+      bytes (element Edi) 0 4 (of (element Esi) ∷ of (element Edi) ∷ of ecx ∷ [])
+      ∷ bytes esi 0 4 (of ecx ∷ of esi ∷ up_or_down ∷ [])
+      ∷ bytes edi 0 4 (of ecx ∷ of edi ∷ up_or_down ∷ [])
+      ∷ bytes ecx 0 4 (of ecx ∷ [])
+      ∷ [];
   uses = of ecx ∷ [];
   accesses = load (element Esi) 4 ∷ store (element Edi) 4 ∷ [];
 }
@@ -69,14 +69,14 @@ compared f = of (element Edi) ∷ of (in_register Eax Low8) ∷ of ecx ∷ f ∷
 
 repne_scas : told (repeated Repeat.Repne (line Op.Scas B [])) ≡ record {
   reads =
-    of (element Edi) ∷ of (in_register Eax Low8) ∷ of ecx ∷ of edi ∷ Source.Flag Cf ∷ Source.Flag Pf ∷ Source.Flag Af ∷ Source.Flag Zf
-    ∷ Source.Flag Sf ∷ Source.Flag Of ∷ up_or_down ∷ [];
+      of (element Edi) ∷ of (in_register Eax Low8) ∷ of ecx ∷ of edi ∷ Source.Flag Cf ∷ Source.Flag Pf ∷ Source.Flag Af ∷ Source.Flag Zf
+      ∷ Source.Flag Sf ∷ Source.Flag Of ∷ up_or_down ∷ [];
   writes =
-    flag Cf (compared (Source.Flag Cf)) ∷ flag Pf (compared (Source.Flag Pf)) ∷ flag Af (compared (Source.Flag Af))
-    ∷ flag Zf (compared (Source.Flag Zf)) ∷ flag Sf (compared (Source.Flag Sf)) ∷ flag Of (compared (Source.Flag Of))
-    ∷ bytes edi 0 4 (of (element Edi) ∷ of (in_register Eax Low8) ∷ of ecx ∷ of edi ∷ up_or_down ∷ [])
-    ∷ bytes ecx 0 4 (of (element Edi) ∷ of (in_register Eax Low8) ∷ of ecx ∷ [])
-    ∷ [];
+      flag Cf (compared (Source.Flag Cf)) ∷ flag Pf (compared (Source.Flag Pf)) ∷ flag Af (compared (Source.Flag Af))
+      ∷ flag Zf (compared (Source.Flag Zf)) ∷ flag Sf (compared (Source.Flag Sf)) ∷ flag Of (compared (Source.Flag Of))
+      ∷ bytes edi 0 4 (of (element Edi) ∷ of (in_register Eax Low8) ∷ of ecx ∷ of edi ∷ up_or_down ∷ [])
+      ∷ bytes ecx 0 4 (of (element Edi) ∷ of (in_register Eax Low8) ∷ of ecx ∷ [])
+      ∷ [];
   uses = of (element Edi) ∷ of (in_register Eax Low8) ∷ of ecx ∷ [];
   accesses = load (element Edi) 1 ∷ [];
 }
