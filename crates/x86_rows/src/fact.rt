@@ -191,7 +191,7 @@ fn op_fact(s: &Sym, facts: &[Fact], op: &MicroOp) -> Fact
 
 /// What is known of the values of a line's row before any state is.
 pub fn facts(row: &[MicroOp], s: &Sym) -> Facts
-    requires { length row.now ≤ 24 }
+    requires { length row.now ≤ 40 }
     ensures { result.items ≡ line_facts row.now s.now }
 {
     let mut facts = Facts::new();
