@@ -10,7 +10,7 @@ use asm_core::{Arg, Bytes, Fact, Function, Input, MicroOp, Origin, Site, Slice, 
 
 pub type Facts = ArrayVec<Fact, MOST>;
 
-fn slice_number(slice: Slice) -> u32
+pub fn slice_number(slice: Slice) -> u32
     ensures is { result ≡ slice_number slice }
     ensures small { result < 4 }
 {

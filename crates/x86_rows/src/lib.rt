@@ -7,7 +7,9 @@ mod arithmetic;
 mod bits;
 mod entries;
 mod fact;
+mod family;
 mod function;
+mod line_row;
 mod memory;
 mod part;
 mod product;
@@ -20,5 +22,5 @@ pub mod terms;
 
 pub use accesses::access;
 pub use entries::{named, reads, uses, writes};
-pub use repeat::{MadeRow, repeated};
+pub use family::{Family, FamilyRow};
 pub use stepper::{Line, MOST, step};

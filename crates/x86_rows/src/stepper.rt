@@ -18,6 +18,7 @@ type Values = ArrayVec<u64, MOST>;
 type Destinations = ArrayVec<Destination, MOST>;
 
 /// An instruction, and what its step takes besides the machine: undefined bits, and the words that come from outside.
+#[derive(Clone, Copy)]
 pub struct Line<'a> {
     pub inst: &'a Inst,
     pub choice: u64,
