@@ -101,7 +101,8 @@ difference_flags x y z r = op3 (to_flag Flag.Cf) Function.Borrow x y z ∷ decre
 -- the flags of a bitwise operation, whose result is the row's micro-operation number r
 abbrev pub logic_flags : ℕ → List MicroOp
 logic_flags r =
-    fixed_flag Flag.Cf 0 ∷ parity_flag r ∷ undefined_flag Flag.Af ∷ zero_flag r ∷ sign_flag r ∷ fixed_flag Flag.Of 0 ∷ []
+    fixed_flag Flag.Cf 0 ∷ parity_flag r ∷ undefined_flag Flag.Af ∷ zero_flag r ∷ sign_flag r
+    ∷ fixed_flag Flag.Of 0 ∷ []
 
 -- PF, AF, ZF and SF undefined
 abbrev pub undefined_middle_flags : List MicroOp → List MicroOp
@@ -114,7 +115,8 @@ abbrev pub as_temporary : MicroOp → MicroOp
 as_temporary op = record op { target = Target.Temporary }
 
 abbrev pub guarded_op : ℕ → ℕ → Target → List MicroOp → List MicroOp
-guarded_op n k (Target.Site site) rest = op3 (Target.Site site) Function.Pick (Input.Earlier n) (Input.Earlier k) (Input.Kept site) ∷ rest
+guarded_op n k (Target.Site site) rest =
+    op3 (Target.Site site) Function.Pick (Input.Earlier n) (Input.Earlier k) (Input.Kept site) ∷ rest
 guarded_op n k target rest = rest
 
 -- each write of a row from its k-th micro-operation on, made where the instruction has a turn to do (n), else left

@@ -48,8 +48,8 @@ abbrev pub same_register : Option Arg → Option Arg → Bool
 same_register (Some (Arg.Register p slice)) (Some (Arg.Register q other)) = same_place p q && slice_number slice == slice_number other
 same_register first second = false
 
--- the row that tells what a line names and accesses, given the one of its steps: the same, but where the operands as they are
--- written make a difference
+-- the row that tells what a line names and accesses, given the one of its steps: the same, but where the operands as
+-- they are written make a difference
 abbrev pub entry_of : Sym → List MicroOp → List MicroOp
 entry_of s row =
     if is_shift s.op && is_zero_count (slice_get s.args 0) then no_shift_row (length s.args)

@@ -1,5 +1,5 @@
--- The instructions: what each does, as a row of micro-operations (Intel SDM volume 2, 32-bit forms). The choice of undefined
--- and of named bits is this project's own.
+-- The instructions: what each does, as a row of micro-operations (Intel SDM volume 2, 32-bit forms). The choice of
+-- undefined and of named bits is this project's own.
 pub mod Arithmetic
 pub mod Atomics
 pub mod Bits

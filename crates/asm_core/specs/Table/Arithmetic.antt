@@ -27,7 +27,9 @@ sub_row = op2 (to_arg 1) Function.Difference (arg 1) (arg 0) ∷ difference_flag
 
 -- d := d - s - CF
 abbrev pub sbb_row : List MicroOp
-sbb_row = op3 (to_arg 1) Function.Difference (arg 1) (arg 0) (flag Flag.Cf) ∷ difference_flags (arg 1) (arg 0) (flag Flag.Cf) 0
+sbb_row =
+    op3 (to_arg 1) Function.Difference (arg 1) (arg 0) (flag Flag.Cf)
+    ∷ difference_flags (arg 1) (arg 0) (flag Flag.Cf) 0
 
 abbrev pub cmp_row : List MicroOp
 cmp_row = op2 Target.Temporary Function.Difference (arg 1) (arg 0) ∷ difference_flags (arg 1) (arg 0) zero_input 0
@@ -41,7 +43,9 @@ abbrev pub inc_row : List MicroOp
 inc_row = op2 (to_arg 0) Function.Sum (arg 0) (Input.Number 1) ∷ increment_flags (arg 0) (Input.Number 1) zero_input 0
 
 abbrev pub dec_row : List MicroOp
-dec_row = op2 (to_arg 0) Function.Difference (arg 0) (Input.Number 1) ∷ decrement_flags (arg 0) (Input.Number 1) zero_input 0
+dec_row =
+    op2 (to_arg 0) Function.Difference (arg 0) (Input.Number 1)
+    ∷ decrement_flags (arg 0) (Input.Number 1) zero_input 0
 
 -- ---- bitwise
 
@@ -92,9 +96,11 @@ mul_row w =
     ∷ product_flags 1
 
 abbrev signed_product_row : Target → Target → Input → Input → List MicroOp
-signed_product_row low high x y = op2 low Function.ProductLow x y ∷ op2 high Function.SignedProductHigh x y ∷ signed_product_flags
+signed_product_row low high x y =
+    op2 low Function.ProductLow x y ∷ op2 high Function.SignedProductHigh x y ∷ signed_product_flags
 
--- the same with signed numbers; with two operands d := d times s, with three d := the first times the second, cut to the width
+-- The same with signed numbers. With two operands d := d times s, with three d := the first times the second, cut to
+-- the width.
 abbrev pub imul_row : Width → ℕ → List MicroOp
 imul_row w (suc zero) = signed_product_row to_accumulator (Target.Site (upper_site w)) accumulator (arg 0)
 imul_row w (suc (suc zero)) = signed_product_row (to_arg 1) Target.Temporary (arg 1) (arg 0)
@@ -135,7 +141,8 @@ xor_self_row = op1 (to_arg 1) Function.Value zero_input ∷ logic_flags 0
 
 -- a register less itself is 0, less the borrow
 abbrev less_self_row : Input → List MicroOp
-less_self_row borrow = op3 (to_arg 1) Function.Difference zero_input zero_input borrow ∷ difference_flags zero_input zero_input borrow 0
+less_self_row borrow =
+    op3 (to_arg 1) Function.Difference zero_input zero_input borrow ∷ difference_flags zero_input zero_input borrow 0
 
 abbrev pub sub_self_row : List MicroOp
 sub_self_row = less_self_row zero_input

@@ -12,7 +12,8 @@ use Rattle.asm_core.specs.declared.micro_op.MicroOp.{MicroOp}
 -- s := d, d := d + s
 abbrev pub xadd_row : List MicroOp
 xadd_row =
-    op1 (to_arg 0) Function.Copy (arg 1) ∷ op2 (to_arg 1) Function.Sum (arg 1) (arg 0) ∷ sum_flags (arg 1) (arg 0) zero_input 1
+    op1 (to_arg 0) Function.Copy (arg 1) ∷ op2 (to_arg 1) Function.Sum (arg 1) (arg 0)
+    ∷ sum_flags (arg 1) (arg 0) zero_input 1
 
 -- Where the accumulator is d (ZF, number 4), d := s, else accumulator := d.
 abbrev pub cmpxchg_row : List MicroOp
@@ -47,4 +48,5 @@ cpuid_row = cpuid_word Reg.Eax 0 ∷ cpuid_word Reg.Ebx 1 ∷ cpuid_word Reg.Ecx
 -- edx:eax := the count of cycles, two words from outside
 abbrev pub rdtsc_row : List MicroOp
 rdtsc_row =
-    op1 (to_reg Reg.Eax Bytes.All) Function.Value (Input.Outside 0) ∷ op1 (to_reg Reg.Edx Bytes.All) Function.Value (Input.Outside 1) ∷ []
+    op1 (to_reg Reg.Eax Bytes.All) Function.Value (Input.Outside 0)
+    ∷ op1 (to_reg Reg.Edx Bytes.All) Function.Value (Input.Outside 1) ∷ []

@@ -26,11 +26,13 @@ to_bytes k bytes = Target.Site (Site.Argument k bytes)
 
 -- the low bytes are the source's, the upper ones 0
 abbrev zero_extended_row : Bytes → Bytes → List MicroOp
-zero_extended_row low upper = op1 (to_bytes 1 low) Function.Copy (bytes_in 0 low) ∷ op1 (to_bytes 1 upper) Function.Value zero_input ∷ []
+zero_extended_row low upper =
+    op1 (to_bytes 1 low) Function.Copy (bytes_in 0 low) ∷ op1 (to_bytes 1 upper) Function.Value zero_input ∷ []
 
 -- the low bytes are the source's, the upper ones its sign
 abbrev sign_extended_row : Function → Bytes → Bytes → List MicroOp
-sign_extended_row fill low upper = op1 (to_bytes 1 low) Function.Copy (bytes_in 0 low) ∷ op1 (to_bytes 1 upper) fill (bytes_in 0 low) ∷ []
+sign_extended_row fill low upper =
+    op1 (to_bytes 1 low) Function.Copy (bytes_in 0 low) ∷ op1 (to_bytes 1 upper) fill (bytes_in 0 low) ∷ []
 
 abbrev pub movzbw_row : List MicroOp
 movzbw_row = zero_extended_row Bytes.Byte0 Bytes.Byte1
@@ -88,7 +90,8 @@ bswap_row =
 -- what a condition is of two flags, by one test of the micro-operation before: whether a differs from b, or c is 1
 abbrev condition_ops : Input → Input → Input → Function → List MicroOp
 condition_ops a b c test =
-    op2 Target.Temporary Function.Xor a b ∷ op2 Target.Temporary Function.Or c (Input.Earlier 0) ∷ op1 Target.Temporary test (Input.Earlier 1) ∷ []
+    op2 Target.Temporary Function.Xor a b ∷ op2 Target.Temporary Function.Or c (Input.Earlier 0)
+    ∷ op1 Target.Temporary test (Input.Earlier 1) ∷ []
 
 -- one flag is 1, or is 0
 abbrev is_one : Flag → List MicroOp
@@ -148,4 +151,6 @@ jecxz_row = op1 Target.Jump Function.IsZero (reg Reg.Ecx Bytes.All) ∷ []
 
 -- ecx := ecx - 1; jumps where it isn't 0 then
 abbrev pub loop_row : List MicroOp
-loop_row = op1 (to_reg Reg.Ecx Bytes.All) Function.CountDown (reg Reg.Ecx Bytes.All) ∷ op1 Target.Jump Function.IsNonZero (Input.Earlier 0) ∷ []
+loop_row =
+    op1 (to_reg Reg.Ecx Bytes.All) Function.CountDown (reg Reg.Ecx Bytes.All)
+    ∷ op1 Target.Jump Function.IsNonZero (Input.Earlier 0) ∷ []

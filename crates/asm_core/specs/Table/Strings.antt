@@ -1,5 +1,5 @@
--- String instructions (Intel SDM volume 2): elements at the addresses in esi and edi, which then step to the next one. What
--- is moved is named and not a copy, by this project's own rule.
+-- String instructions (Intel SDM volume 2): elements at the addresses in esi and edi, which then step to the next one.
+-- What is moved is named and not a copy, by this project's own rule.
 use Rattle.std.specs.Prelude.{ℕ, List, [], ◌∷◌, ◌++◌}
 use Rattle.asm_core.specs.RowTerms.{op1, op2, reg, to_reg, flag, to_flag, zero_input, accumulator, to_accumulator, difference_flags}
 use Rattle.asm_core.specs.declared.reg.Reg.{Reg}
@@ -34,7 +34,8 @@ lods_row = op1 to_accumulator Function.Value (at_address Reg.Esi) ∷ stepped Re
 -- the flags of x less the element at edi
 abbrev compared_row : Input → List MicroOp → List MicroOp
 compared_row x rest =
-    op2 Target.Temporary Function.Difference x (at_address Reg.Edi) ∷ difference_flags x (at_address Reg.Edi) zero_input 0 ++ rest
+    op2 Target.Temporary Function.Difference x (at_address Reg.Edi)
+    ∷ difference_flags x (at_address Reg.Edi) zero_input 0 ++ rest
 
 abbrev pub cmps_row : List MicroOp
 cmps_row = compared_row (at_address Reg.Esi) (stepped Reg.Esi ∷ stepped Reg.Edi ∷ [])

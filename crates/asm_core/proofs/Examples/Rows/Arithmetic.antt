@@ -42,7 +42,8 @@ itself = of (zeroth All) ∷ []
 test : told (line Op.Test L (zeroth All ∷ zeroth All ∷ [])) ≡ record {
   reads = of (zeroth All) ∷ of (zeroth All) ∷ Source.Undefined ∷ [];
   writes =
-      flag Cf [] ∷ flag Pf (of (zeroth All) ∷ of (zeroth All) ∷ []) ∷ flag Af undefined ∷ flag Zf (of (zeroth All) ∷ of (zeroth All) ∷ [])
+      flag Cf [] ∷ flag Pf (of (zeroth All) ∷ of (zeroth All) ∷ []) ∷ flag Af undefined ∷ flag Zf (of (zeroth All)
+      ∷ of (zeroth All) ∷ [])
       ∷ flag Sf (of (zeroth All) ∷ of (zeroth All) ∷ []) ∷ flag Of [] ∷ [];
   uses = [];
   accesses = [];
@@ -53,7 +54,9 @@ test = refl
 -- incl %0: all flags but CF
 inc : told (line Op.Inc L (zeroth All ∷ [])) ≡ record {
   reads = itself;
-  writes = bytes (zeroth All) 0 4 itself ∷ flag Pf itself ∷ flag Af itself ∷ flag Zf itself ∷ flag Sf itself ∷ flag Of itself ∷ [];
+  writes =
+      bytes (zeroth All) 0 4 itself ∷ flag Pf itself ∷ flag Af itself ∷ flag Zf itself ∷ flag Sf itself
+      ∷ flag Of itself ∷ [];
   uses = [];
   accesses = [];
 }
@@ -73,7 +76,9 @@ neg = refl
 -- xorl %0,%0 names nothing, but that AF is undefined
 xor_itself : told (line Op.Xor L (zeroth All ∷ zeroth All ∷ [])) ≡ record {
   reads = undefined;
-  writes = bytes (zeroth All) 0 4 [] ∷ flag Cf [] ∷ flag Pf [] ∷ flag Af undefined ∷ flag Zf [] ∷ flag Sf [] ∷ flag Of [] ∷ [];
+  writes =
+      bytes (zeroth All) 0 4 [] ∷ flag Cf [] ∷ flag Pf [] ∷ flag Af undefined ∷ flag Zf [] ∷ flag Sf []
+      ∷ flag Of [] ∷ [];
   uses = [];
   accesses = [];
 }
@@ -86,7 +91,8 @@ xor_parts : told (line Op.Xor B (zeroth Low8 ∷ zeroth High8 ∷ [])) ≡ recor
   writes =
       bytes (zeroth High8) 0 1 (of (zeroth Low8) ∷ of (zeroth High8) ∷ []) ∷ flag Cf []
       ∷ flag Pf (of (zeroth Low8) ∷ of (zeroth High8) ∷ []) ∷ flag Af undefined
-      ∷ flag Zf (of (zeroth Low8) ∷ of (zeroth High8) ∷ []) ∷ flag Sf (of (zeroth Low8) ∷ of (zeroth High8) ∷ []) ∷ flag Of [] ∷ [];
+      ∷ flag Zf (of (zeroth Low8) ∷ of (zeroth High8) ∷ []) ∷ flag Sf (of (zeroth Low8) ∷ of (zeroth High8) ∷ [])
+      ∷ flag Of [] ∷ [];
   uses = [];
   accesses = [];
 }
@@ -176,7 +182,9 @@ divided_bytes = of (zeroth Low8) ∷ of (in_register Eax Low8) ∷ of (in_regist
 
 idiv_bytes : told (line Op.Idiv B (zeroth Low8 ∷ [])) ≡ record {
   reads = of (zeroth Low8) ∷ of (in_register Eax Low8) ∷ of (in_register Eax High8) ∷ Source.Undefined ∷ [];
-  writes = bytes (in_register Eax Low8) 0 1 divided_bytes ∷ bytes (in_register Eax High8) 0 1 divided_bytes ∷ six_flags undefined [];
+  writes =
+      bytes (in_register Eax Low8) 0 1 divided_bytes ∷ bytes (in_register Eax High8) 0 1 divided_bytes
+      ∷ six_flags undefined [];
   uses = divided_bytes;
   accesses = [];
 }

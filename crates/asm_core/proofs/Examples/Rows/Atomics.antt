@@ -44,7 +44,8 @@ compared = of memory ∷ of al ∷ []
 
 cmpxchg : told (line Op.Cmpxchg B (zeroth Low8 ∷ memory ∷ [])) ≡ record {
   reads = of (zeroth Low8) ∷ of memory ∷ of al ∷ [];
-  writes = six_flags compared (bytes al 0 1 compared ∷ bytes memory 0 1 (of (zeroth Low8) ∷ of memory ∷ of al ∷ []) ∷ []);
+  writes =
+      six_flags compared (bytes al 0 1 compared ∷ bytes memory 0 1 (of (zeroth Low8) ∷ of memory ∷ of al ∷ []) ∷ []);
   uses = [];
   accesses = load memory 1 ∷ store memory 1 ∷ [];
 }
@@ -58,7 +59,8 @@ matched = of memory ∷ of eax ∷ of edx ∷ []
 cmpxchg8b : told (line Op.Cmpxchg8b Q (memory ∷ [])) ≡ record {
   reads = of memory ∷ of eax ∷ of ebx ∷ of ecx ∷ of edx ∷ [];
   writes =
-      bytes memory 0 8 (of memory ∷ of eax ∷ of ebx ∷ of ecx ∷ of edx ∷ []) ∷ bytes edx 0 4 matched ∷ bytes eax 0 4 matched
+      bytes memory 0 8 (of memory ∷ of eax ∷ of ebx ∷ of ecx ∷ of edx ∷ []) ∷ bytes edx 0 4 matched
+      ∷ bytes eax 0 4 matched
       ∷ flag Zf matched ∷ [];
   uses = [];
   accesses = load memory 8 ∷ store memory 8 ∷ [];

@@ -20,7 +20,8 @@ by_three = of (number 3) ∷ of (first All) ∷ []
 shl_by_three : told (line Op.Shl L (number 3 ∷ first All ∷ [])) ≡ record {
   reads = of (number 3) ∷ of (first All) ∷ Source.Undefined ∷ [];
   writes =
-      bytes (first All) 0 4 by_three ∷ flag Cf by_three ∷ flag Pf by_three ∷ flag Af undefined ∷ flag Zf by_three ∷ flag Sf by_three
+      bytes (first All) 0 4 by_three ∷ flag Cf by_three ∷ flag Pf by_three ∷ flag Af undefined ∷ flag Zf by_three
+      ∷ flag Sf by_three
       ∷ flag Of undefined ∷ [];
   uses = [];
   accesses = [];
@@ -35,7 +36,8 @@ by_nine = of (number 9) ∷ of (first Low8) ∷ []
 shl_byte_by_nine : told (line Op.Shl B (number 9 ∷ first Low8 ∷ [])) ≡ record {
   reads = of (number 9) ∷ of (first Low8) ∷ Source.Undefined ∷ [];
   writes =
-      bytes (first Low8) 0 1 by_nine ∷ flag Cf undefined ∷ flag Pf by_nine ∷ flag Af undefined ∷ flag Zf by_nine ∷ flag Sf by_nine
+      bytes (first Low8) 0 1 by_nine ∷ flag Cf undefined ∷ flag Pf by_nine ∷ flag Af undefined ∷ flag Zf by_nine
+      ∷ flag Sf by_nine
       ∷ flag Of undefined ∷ [];
   uses = [];
   accesses = [];
@@ -49,7 +51,9 @@ old = of memory ∷ []
 
 shr_once : told (line Op.Shr L (memory ∷ [])) ≡ record {
   reads = of memory ∷ Source.Undefined ∷ [];
-  writes = bytes memory 0 4 old ∷ flag Cf old ∷ flag Pf old ∷ flag Af undefined ∷ flag Zf old ∷ flag Sf old ∷ flag Of old ∷ [];
+  writes =
+      bytes memory 0 4 old ∷ flag Cf old ∷ flag Pf old ∷ flag Af undefined ∷ flag Zf old ∷ flag Sf old
+      ∷ flag Of old ∷ [];
   uses = [];
   accesses = load memory 4 ∷ store memory 4 ∷ [];
 }
@@ -62,7 +66,9 @@ by_one = of (number 1) ∷ of (first All) ∷ []
 
 sar_by_one : told (line Op.Sar L (number 1 ∷ first All ∷ [])) ≡ record {
   reads = of (number 1) ∷ of (first All) ∷ Source.Undefined ∷ [];
-  writes = bytes (first All) 0 4 by_one ∷ flag Cf by_one ∷ flag Pf by_one ∷ flag Af undefined ∷ flag Zf by_one ∷ flag Sf by_one ∷ flag Of [] ∷ [];
+  writes =
+      bytes (first All) 0 4 by_one ∷ flag Cf by_one ∷ flag Pf by_one ∷ flag Af undefined ∷ flag Zf by_one
+      ∷ flag Sf by_one ∷ flag Of [] ∷ [];
   uses = [];
   accesses = [];
 }
@@ -72,7 +78,8 @@ sar_by_one = refl
 -- shlw %cl,%1: each flag names itself too, and CF may be undefined
 shl_word : told (line Op.Shl W (cl ∷ first Low16 ∷ [])) ≡ record {
   reads =
-      of cl ∷ of (first Low16) ∷ Source.Flag Cf ∷ Source.Flag Pf ∷ Source.Flag Af ∷ Source.Flag Zf ∷ Source.Flag Sf ∷ Source.Flag Of
+      of cl ∷ of (first Low16) ∷ Source.Flag Cf ∷ Source.Flag Pf ∷ Source.Flag Af ∷ Source.Flag Zf ∷ Source.Flag Sf
+      ∷ Source.Flag Of
       ∷ Source.Undefined ∷ [];
   writes =
       bytes (first Low16) 0 2 (of cl ∷ of (first Low16) ∷ [])
@@ -92,7 +99,8 @@ shl_word = refl
 -- shrl %cl,%1 in memory: CF is never undefined in 32 bits
 shr_memory : told (line Op.Shr L (cl ∷ memory ∷ [])) ≡ record {
   reads =
-      of cl ∷ of memory ∷ Source.Flag Cf ∷ Source.Flag Pf ∷ Source.Flag Af ∷ Source.Flag Zf ∷ Source.Flag Sf ∷ Source.Flag Of
+      of cl ∷ of memory ∷ Source.Flag Cf ∷ Source.Flag Pf ∷ Source.Flag Af ∷ Source.Flag Zf ∷ Source.Flag Sf
+      ∷ Source.Flag Of
       ∷ Source.Undefined ∷ [];
   writes =
       bytes memory 0 4 (of cl ∷ of memory ∷ [])
@@ -112,7 +120,8 @@ shr_memory = refl
 -- sarb %cl,%1: CF is never undefined, nor does OF name the destination
 sar_byte : told (line Op.Sar B (cl ∷ first Low8 ∷ [])) ≡ record {
   reads =
-      of cl ∷ of (first Low8) ∷ Source.Flag Cf ∷ Source.Flag Pf ∷ Source.Flag Af ∷ Source.Flag Zf ∷ Source.Flag Sf ∷ Source.Flag Of
+      of cl ∷ of (first Low8) ∷ Source.Flag Cf ∷ Source.Flag Pf ∷ Source.Flag Af ∷ Source.Flag Zf ∷ Source.Flag Sf
+      ∷ Source.Flag Of
       ∷ Source.Undefined ∷ [];
   writes =
       bytes (first Low8) 0 1 (of cl ∷ of (first Low8) ∷ [])
@@ -166,7 +175,8 @@ shifted_out = of (number 1) ∷ of memory ∷ []
 shld : told (line Op.Shld L (number 1 ∷ zeroth All ∷ memory ∷ [])) ≡ record {
   reads = of (number 1) ∷ of (zeroth All) ∷ of memory ∷ Source.Undefined ∷ [];
   writes =
-      bytes memory 0 4 shifted_in ∷ flag Cf shifted_out ∷ flag Pf shifted_in ∷ flag Af undefined ∷ flag Zf shifted_in ∷ flag Sf shifted_in
+      bytes memory 0 4 shifted_in ∷ flag Cf shifted_out ∷ flag Pf shifted_in ∷ flag Af undefined
+      ∷ flag Zf shifted_in ∷ flag Sf shifted_in
       ∷ flag Of shifted_in ∷ [];
   uses = [];
   accesses = load memory 4 ∷ store memory 4 ∷ [];
@@ -189,7 +199,8 @@ bsf : told (line Op.Bsf L (memory ∷ zeroth All ∷ [])) ≡ record {
   reads = of memory ∷ Source.Undefined ∷ [];
   writes =
       bytes (zeroth All) 0 4 (of memory ∷ Source.Undefined ∷ [])
-      ∷ flag Cf undefined ∷ flag Pf undefined ∷ flag Af undefined ∷ flag Zf (of memory ∷ []) ∷ flag Sf undefined ∷ flag Of undefined ∷ [];
+      ∷ flag Cf undefined ∷ flag Pf undefined ∷ flag Af undefined ∷ flag Zf (of memory ∷ []) ∷ flag Sf undefined
+      ∷ flag Of undefined ∷ [];
   uses = [];
   accesses = load memory 4 ∷ [];
 }

@@ -98,7 +98,9 @@ push = refl
 -- popl %0
 pop : told (line Op.Pop L (zeroth All ∷ [])) ≡ record {
   reads = Source.Top ∷ [];
-  writes = copy (zeroth All) 0 4 Source.Top 0 ∷ (record { to = Written.Pop; first = 0; count = 0; by = By.Named }, []) ∷ [];
+  writes =
+      copy (zeroth All) 0 4 Source.Top 0 ∷ (record { to = Written.Pop; first = 0; count = 0; by = By.Named }, [])
+      ∷ [];
   uses = [];
   accesses = [];
 }
@@ -108,7 +110,9 @@ pop = refl
 -- cmovlel %1,%0 where operand 1 is in memory, which is loaded in any case
 cmov : told (line (Op.Cmov Cond.Le) L (memory ∷ zeroth All ∷ [])) ≡ record {
   reads = of memory ∷ of (zeroth All) ∷ Source.Flag Zf ∷ Source.Flag Sf ∷ Source.Flag Of ∷ [];
-  writes = bytes (zeroth All) 0 4 (of memory ∷ of (zeroth All) ∷ Source.Flag Zf ∷ Source.Flag Sf ∷ Source.Flag Of ∷ []) ∷ [];
+  writes =
+      bytes (zeroth All) 0 4 (of memory ∷ of (zeroth All) ∷ Source.Flag Zf ∷ Source.Flag Sf ∷ Source.Flag Of ∷ [])
+      ∷ [];
   uses = [];
   accesses = load memory 4 ∷ [];
 }

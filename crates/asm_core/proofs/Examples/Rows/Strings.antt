@@ -41,7 +41,8 @@ elements = of (element Esi) ∷ of (element Edi) ∷ []
 
 cmps : told (line Op.Cmps B []) ≡ record {
   reads = of (element Esi) ∷ of (element Edi) ∷ of esi ∷ of edi ∷ up_or_down ∷ [];
-  writes = six_flags elements (bytes esi 0 4 (of esi ∷ up_or_down ∷ []) ∷ bytes edi 0 4 (of edi ∷ up_or_down ∷ []) ∷ []);
+  writes =
+      six_flags elements (bytes esi 0 4 (of esi ∷ up_or_down ∷ []) ∷ bytes edi 0 4 (of edi ∷ up_or_down ∷ []) ∷ []);
   uses = [];
   accesses = load (element Esi) 1 ∷ load (element Edi) 1 ∷ [];
 }
@@ -69,7 +70,8 @@ compared f = of (element Edi) ∷ of (in_register Eax Low8) ∷ of ecx ∷ f ∷
 
 repne_scas : told (repeated Repeat.Repne (line Op.Scas B [])) ≡ record {
   reads =
-      of (element Edi) ∷ of (in_register Eax Low8) ∷ of ecx ∷ of edi ∷ Source.Flag Cf ∷ Source.Flag Pf ∷ Source.Flag Af ∷ Source.Flag Zf
+      of (element Edi) ∷ of (in_register Eax Low8) ∷ of ecx ∷ of edi ∷ Source.Flag Cf ∷ Source.Flag Pf
+      ∷ Source.Flag Af ∷ Source.Flag Zf
       ∷ Source.Flag Sf ∷ Source.Flag Of ∷ up_or_down ∷ [];
   writes =
       flag Cf (compared (Source.Flag Cf)) ∷ flag Pf (compared (Source.Flag Pf)) ∷ flag Af (compared (Source.Flag Af))

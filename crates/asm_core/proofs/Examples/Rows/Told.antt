@@ -96,7 +96,8 @@ store a n = record { to = a; bytes = n; store = true }
 
 -- all six flags with the same names
 abbrev pub six_flags : List Source → List (Write × List Source) → List (Write × List Source)
-six_flags names rest = flag Cf names ∷ flag Pf names ∷ flag Af names ∷ flag Zf names ∷ flag Sf names ∷ flag Of names ∷ rest
+six_flags names rest =
+    flag Cf names ∷ flag Pf names ∷ flag Af names ∷ flag Zf names ∷ flag Sf names ∷ flag Of names ∷ rest
 
 -- PF, AF, ZF and SF undefined
 abbrev pub four_undefined : List (Write × List Source) → List (Write × List Source)
