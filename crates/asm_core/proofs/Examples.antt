@@ -9,6 +9,7 @@ mod Numbers
 mod Pieces
 mod Placements
 mod Readings
+mod Rows
 mod Runs
 mod Shapes
 mod Values

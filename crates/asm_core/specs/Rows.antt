@@ -1,7 +1,8 @@
 -- What each instruction does: its row of the table, and one step of it.
-use Rattle.std.specs.Prelude.{◌≡◌, ℕ, ◌-◌, ◌==◌, ◌&&◌, Bool, false, if◌then◌else◌, List, length, Option, None, Some, slice_get}
+use Rattle.std.specs.Prelude.{◌≡◌, ℕ, ◌==◌, ◌&&◌, Bool, false, if◌then◌else◌, List, length, Option, None, Some, slice_get}
 use Rattle.asm_core.specs.MicroOps.{Stepped, arg_at, row_ended}
-use Rattle.asm_core.specs.Table.{row_of, is_shift, no_shift_row, self_row}
+use Rattle.asm_core.specs.Table.{row_of, is_shift, self_row}
+use Rattle.asm_core.specs.Table.Bits.{no_shift_row}
 use Rattle.asm_core.specs.Reg.{reg_number}
 use Rattle.asm_core.specs.Memory.{modulo}
 use Rattle.asm_core.specs.Entries.{slice_number}
@@ -33,27 +34,30 @@ inst_row i = repeated i.repeat (row_of i.op i.width (arg_count i))
 abbrev pub line_row : Sym → List MicroOp
 line_row s = repeated s.repeat (row_of s.op s.width (length s.args))
 
-abbrev is_zero_count : Option Arg → Bool
+abbrev pub is_zero_count : Option Arg → Bool
 is_zero_count (Some (Arg.Number n)) = modulo n 5 == 0
 is_zero_count arg = false
 
-abbrev same_place : Place → Place → Bool
+abbrev pub same_place : Place → Place → Bool
 same_place (Place.Reg r) (Place.Reg q) = reg_number r == reg_number q
 same_place (Place.Operand j) (Place.Operand k) = j == k
 same_place p q = false
 
 -- both operands are one register, by one name
-abbrev same_register : Option Arg → Option Arg → Bool
+abbrev pub same_register : Option Arg → Option Arg → Bool
 same_register (Some (Arg.Register p slice)) (Some (Arg.Register q other)) = same_place p q && slice_number slice == slice_number other
 same_register first second = false
 
--- The row that tells what a line names and accesses. It is that of its steps, but where the operands as they are written
--- make a difference.
+-- the row that tells what a line names and accesses, given the one of its steps: the same, but where the operands as
+-- they are written make a difference
+abbrev pub entry_of : Sym → List MicroOp → List MicroOp
+entry_of s row =
+    if is_shift s.op && is_zero_count (slice_get s.args 0) then no_shift_row (length s.args)
+    else if same_register (slice_get s.args 0) (slice_get s.args 1) then self_row s.op row
+    else row
+
 abbrev pub entry_row : Sym → List MicroOp
-entry_row s =
-    if is_shift s.op && is_zero_count (slice_get s.args 0) then no_shift_row (length s.args - 1)
-    else if same_register (slice_get s.args 0) (slice_get s.args 1) then self_row s.op (line_row s)
-    else line_row s
+entry_row s = entry_of s (line_row s)
 
 -- One step of an instruction that goes on at the goal where it jumps. Undefined bits are taken from the choice, and what an
 -- instruction learns from outside from the words.

@@ -205,6 +205,18 @@ pub enum Destination {
     Pop(u32),
 }
 
+impl Default for MicroOp {
+    fn default() -> Self {
+        MicroOp {
+            target: Target::Temporary,
+            function: Function::Value,
+            x: Input::Number(0),
+            y: Input::Number(0),
+            z: Input::Number(0),
+        }
+    }
+}
+
 impl Default for Destination {
     fn default() -> Self {
         Destination::Nowhere

@@ -13,7 +13,8 @@ use Rattle.asm_core.specs.Reg.{reg_number}
 use Rattle.asm_core.specs.MicroOps.{arg_at, arg_destination, destinations_of, put, read_arg, read_in, values_of, row_ended}
 use Rattle.asm_core.specs.RowLaws.{HoldsAfter, Component, component_in, ChangesOnly, IsHit, IsHitByOne}
 use Rattle.asm_core.specs.RowTerms.{repeated}
-use Rattle.asm_core.specs.Table.{row_of, mov_row}
+use Rattle.asm_core.specs.Table.{row_of}
+use Rattle.asm_core.specs.Table.Moves.{mov_row}
 use Rattle.asm_core.specs.Rows.{inst_row, arg_count, row_step}
 use Rattle.asm_core.specs.Run.{Outcome, run_of}
 use Rattle.asm_core.specs.Frame.{MayChange, MayDiffer, FlagMayChange, IsFramed, KeepsFrame}

@@ -193,7 +193,7 @@ fn names_where(purpose: Purpose, row: &[MicroOp], facts: &[Fact]) -> u64
 
 /// The k-th thing that a jump, a division or a repeated instruction depends on.
 pub fn uses(row: &[MicroOp], s: &Sym, k: usize) -> Option<Source>
-    requires { length row.now ≤ 24 }
+    requires { length row.now ≤ 40 }
     ensures { result ≡ slice_get (uses_of row.now s.now) k }
 {
     let facts = facts(row, s);
@@ -202,7 +202,7 @@ pub fn uses(row: &[MicroOp], s: &Sym, k: usize) -> Option<Source>
 
 /// The k-th thing that is copied, named or used.
 pub fn reads(row: &[MicroOp], s: &Sym, k: usize) -> Option<Source>
-    requires { length row.now ≤ 24 }
+    requires { length row.now ≤ 40 }
     ensures { result ≡ slice_get (reads_of row.now s.now) k }
 {
     let facts = facts(row, s);
@@ -342,7 +342,7 @@ fn nth_write(row: &[MicroOp], k: usize) -> Option<usize>
 }
 
 fn named_source(row: &[MicroOp], s: &Sym, k: usize, j: usize) -> Option<Source>
-    requires { length row.now ≤ 24 }
+    requires { length row.now ≤ 40 }
     ensures { result ≡ slice_get (named_of row.now s.now k) j }
 {
     let n = nth_write(row, k)?;
@@ -356,7 +356,7 @@ fn named_source(row: &[MicroOp], s: &Sym, k: usize, j: usize) -> Option<Source>
 /// The j-th thing that the k-th write names. Nothing where the write is a copy or sets a flag. What is named decides: two
 /// readings that agree on it give equal values, and numbers are read as they are known.
 pub fn named(row: &[MicroOp], s: &Sym, k: usize, j: usize) -> Option<Source>
-    requires { length row.now ≤ 24 }
+    requires { length row.now ≤ 40 }
     ensures is { result ≡ slice_get (named_of row.now s.now k) j }
     ensures decides { NamesDecide row.now s.now.width (known_in s.now) }
     ensures known { length s.now.args ≤ 3 → (p : Placement) → ReadsKnown p s.now }

@@ -10,7 +10,7 @@ use asm_core::{Arg, Bytes, Fact, Function, Input, MicroOp, Origin, Site, Slice, 
 
 pub type Facts = ArrayVec<Fact, MOST>;
 
-fn slice_number(slice: Slice) -> u32
+pub fn slice_number(slice: Slice) -> u32
     ensures is { result ≡ slice_number slice }
     ensures small { result < 4 }
 {
@@ -191,7 +191,7 @@ fn op_fact(s: &Sym, facts: &[Fact], op: &MicroOp) -> Fact
 
 /// What is known of the values of a line's row before any state is.
 pub fn facts(row: &[MicroOp], s: &Sym) -> Facts
-    requires { length row.now ≤ 24 }
+    requires { length row.now ≤ 40 }
     ensures { result.items ≡ line_facts row.now s.now }
 {
     let mut facts = Facts::new();

@@ -10,14 +10,15 @@ use crate::state::{destination, is_good_op, put, read};
 use arrayvec::ArrayVec;
 use asm_core::{Destination, Fault, Input, Inst, Machine, MicroOp, StepEnd, Target};
 
-/// How many micro-operations a row has at most.
-pub const MOST: usize = 24;
+/// How many micro-operations a row has at most, one that is repeated too.
+pub const MOST: usize = 40;
 
 type Values = ArrayVec<u64, MOST>;
 
 type Destinations = ArrayVec<Destination, MOST>;
 
 /// An instruction, and what its step takes besides the machine: undefined bits, and the words that come from outside.
+#[derive(Clone, Copy)]
 pub struct Line<'a> {
     pub inst: &'a Inst,
     pub choice: u64,
@@ -53,7 +54,7 @@ fn computed(line: &Line, m: &Machine, values: &[u64], op: &MicroOp) -> u64
 }
 
 fn values(line: &Line, m: &Machine, row: &[MicroOp]) -> Values
-    requires { length row.now ≤ 24 }
+    requires { length row.now ≤ 40 }
     ensures { result.items ≡ values_of line.now.inst.now.width (read_in line.now.inst.now line.now.choice line.now.words.now m.now) row.now }
 {
     let mut values = Values::new();
@@ -65,7 +66,7 @@ fn values(line: &Line, m: &Machine, row: &[MicroOp]) -> Values
 }
 
 fn destinations(i: &Inst, m: &Machine, row: &[MicroOp]) -> Destinations
-    requires { length row.now ≤ 24 }
+    requires { length row.now ≤ 40 }
     ensures { result.items ≡ destinations_of i.now m.now row.now }
 {
     let mut destinations = Destinations::new();
@@ -143,7 +144,7 @@ fn takes_outside(row: &[MicroOp]) -> bool
 
 /// Does a step whose values are known.
 fn end(m: &mut Machine, i: &Inst, row: &[MicroOp], goal: u32, values: &[u64]) -> StepEnd
-    requires few { length row.now ≤ 24 }
+    requires few { length row.now ≤ 40 }
     requires at { m.old.at + 1 < 2 ^ 32 }
     ensures { IsStepOf result (ended_by row.now i.now goal values.now m.old) m.old m.new }
 {
@@ -169,7 +170,7 @@ fn end(m: &mut Machine, i: &Inst, row: &[MicroOp], goal: u32, values: &[u64]) ->
 }
 
 fn step_by_row(m: &mut Machine, row: &[MicroOp], line: &Line, goal: u32) -> StepEnd
-    requires few { length row.now ≤ 24 }
+    requires few { length row.now ≤ 40 }
     requires at { m.old.at + 1 < 2 ^ 32 }
     ensures { IsStepOf result (row_ended row.now line.now.inst.now goal line.now.choice line.now.words.now m.old) m.old m.new }
 {
@@ -180,7 +181,7 @@ fn step_by_row(m: &mut Machine, row: &[MicroOp], line: &Line, goal: u32) -> Step
 /// Does one step of an instruction whose row this is. It goes on at the goal where it jumps. After a fault the machine is as
 /// before, and in any case only what is at the row's destinations has changed, beside the position.
 pub fn step(m: &mut Machine, row: &[MicroOp], line: &Line, goal: u32) -> StepEnd
-    requires few { length row.now ≤ 24 }
+    requires few { length row.now ≤ 40 }
     requires at { m.old.at + 1 < 2 ^ 32 }
     ensures is { IsStepOf result (row_ended row.now line.now.inst.now goal line.now.choice line.now.words.now m.old) m.old m.new }
     ensures changes { ChangesDestinations row.now line.now.inst.now m.old m.new }
