@@ -3,6 +3,7 @@ pub mod FactLaws
 pub mod FlagLaws
 pub mod Keeping
 pub mod MachineLaws
+pub mod PlacedLaws
 pub mod Puts
 pub mod ReadBack
 pub mod ReadingLaws

@@ -1,22 +1,32 @@
 -- What holds of the steps of every row, whatever its micro-operations are.
-use Rattle.std.specs.Prelude.{◌≡◌, ◌⊎◌, ℕ, zero, suc, ◌+◌, ◌*◌, ◌/◌, ◌%◌, ◌^◌, ◌<◌, ◌≤◌, List, [], ◌∷◌, slice_index, Option, Some}
+use Rattle.std.specs.Prelude.{◌≡◌, ◌⊎◌, ℕ, zero, suc, ◌+◌, ◌*◌, ◌/◌, ◌%◌, ◌^◌, ◌<◌, ◌≤◌, List, [], ◌∷◌, length, slice_get, slice_index, Option, None, Some}
 use Rattle.std.specs.Int.{bit_at}
-use Rattle.asm_core.specs.Entries.{origin_rank, input_origin, fact_in, facts_of, names_where, is_control, known_in}
+use Rattle.asm_core.specs.Entries.{origin_rank, input_origin, fact_in, facts_of, line_facts, names_where, is_control, known_in}
 use Rattle.asm_core.specs.Function.{bit}
 use Rattle.asm_core.specs.Flag.{flag_in}
 use Rattle.asm_core.specs.Machine.{reg_in, byte_at, layouts_of}
-use Rattle.asm_core.specs.MicroOps.{Stepped, first_of, count_of, values_of, read_in, is_over, divides, next_of, destinations_of}
-use Rattle.asm_core.specs.Reading.{instance_of}
+use Rattle.asm_core.specs.Memory.{modulo, address_of}
+use Rattle.asm_core.specs.MicroOps.{Stepped, first_of, count_of, bytes_named, arg_at, values_of, read_in, is_over, divides, next_of, destinations_of, row_ended}
+use Rattle.asm_core.specs.Reading.Placed.{operand_under, operand_at, inst_under}
+use Rattle.asm_core.specs.Rows.{inst_row, line_row, row_step}
 use Rattle.asm_core.specs.declared.reg.Reg.{Reg}
+use Rattle.asm_core.specs.declared.reg.Slice.{Slice}
 use Rattle.asm_core.specs.declared.flag.Flag.{Flag}
 use Rattle.asm_core.specs.declared.inst.Width.{Width}
 use Rattle.asm_core.specs.declared.inst.Inst.{Inst}
+use Rattle.asm_core.specs.declared.inst.InstArg.{InstArg}
+use Rattle.asm_core.specs.declared.sym.Arg.{Arg}
 use Rattle.asm_core.specs.declared.sym.Sym.{Sym}
 use Rattle.asm_core.specs.declared.placement.Placement.{Placement}
 use Rattle.asm_core.specs.declared.micro_op.MicroOp.{MicroOp}
+use Rattle.asm_core.specs.declared.micro_op.Bytes.{Bytes}
+use Rattle.asm_core.specs.declared.micro_op.Site.{Site}
+use Rattle.asm_core.specs.declared.micro_op.Target.{Target}
 use Rattle.asm_core.specs.declared.micro_op.Input.{Input}
 use Rattle.asm_core.specs.declared.micro_op.Origin.{Origin}
 use Rattle.asm_core.specs.declared.micro_op.Destination.{Destination}
+use Rattle.asm_core.specs.declared.row.Written.{Written}
+use Rattle.asm_core.specs.declared.row.Write.{Write}
 use Rattle.asm_core.specs.declared.machine.Machine.{Machine}
 
 -- the property holds after a step that is no fault; no instruction ends a run by itself
@@ -117,4 +127,88 @@ ChangesDestinations row i before after = ChangesOnly (IsHitByOne (destinations_o
 
 -- before any state, a line's numbers are known: a placed line reads them so
 pub record ReadsKnown (p : Placement) (s : Sym) : Type 0 where
-  pub each : (choice : ℕ) (words : List ℕ) (m : Machine) → Knows (known_in s) (read_in (instance_of p s) choice words m)
+  pub each : (choice : ℕ) (words : List ℕ) (m : Machine) → Knows (known_in s) (read_in (inst_under p s) choice words m)
+
+-- ---- a line under a placement
+
+-- before any state, an instruction's numbers are known
+abbrev pub known_operand : Width → Bytes → Option InstArg → Option ℕ
+known_operand w bytes (Some (InstArg.Number n)) = Some (modulo n (8 * count_of w bytes))
+known_operand w bytes arg = None
+
+abbrev pub known_of : Inst → Input → Option ℕ
+known_of i (Input.Read (Site.Argument k bytes)) = known_operand i.width bytes (arg_at i k)
+known_of i (Input.Kept (Site.Argument k bytes)) = known_operand i.width bytes (arg_at i k)
+known_of i x = None
+
+-- the line has at most three operands, and the placement says where each is
+pub record IsPlaced (p : Placement) (s : Sym) : Type 0 where
+  pub few : length s.args ≤ 3
+  pub each : (k : ℕ) (arg : Arg) → slice_get s.args k ≡ Some arg → operand_under p arg ≡ None → ⊥
+
+-- Placing a line and then stepping equals stepping as the line says: the row is the line's, each operand is where the
+-- placement puts the line's, and what a value of a placed line names, the line names.
+pub record StepsAsLine (p : Placement) (s : Sym) : Type 0 where
+  pub row : inst_row (inst_under p s) ≡ line_row s
+  pub operands : (k : ℕ) → arg_at (inst_under p s) k ≡ operand_at p (slice_get s.args k)
+  pub steps : (goal choice : ℕ) (words : List ℕ) (m : Machine) → row_step (inst_under p s) goal choice words m ≡ row_ended (line_row s) (inst_under p s) goal choice words m
+  pub knows : (choice : ℕ) (words : List ℕ) (m : Machine) → Knows (known_of (inst_under p s)) (read_in (inst_under p s) choice words m)
+  pub names : (row : List MicroOp) (k r : ℕ) → bit_at (fact_in (facts_of s.width (known_of (inst_under p s)) row) k).names r ≡ 1 → bit_at (fact_in (line_facts row s) k).names r ≡ 1
+
+-- ---- what a line's writes tell
+
+-- byte o of an operand, counted from the first that its name names
+abbrev pub operand_byte : Option InstArg → ℕ → Machine → Option Component
+operand_byte (Some (InstArg.Register r slice)) o m = Some (Component.RegisterByte r (first_of (bytes_named slice) + o))
+operand_byte (Some (InstArg.Address form k)) o m = Some (Component.MemoryByte ((address_of form m + o) % 2 ^ 32))
+operand_byte arg o m = None
+
+-- byte o of what is written, in the state before; a flag is one
+abbrev pub written_byte : Placement → Machine → Written → ℕ → Option Component
+written_byte p m (Written.Arg arg) o = operand_byte (operand_under p arg) o m
+written_byte p m (Written.Flag f) o = Some (Component.FlagBit f)
+written_byte p m Written.Push o = Some (Component.ScratchByte (4 * m.scratch_top + o))
+written_byte p m Written.Pop o = None
+
+abbrev pub IsStackMove : Written → Type 0
+IsStackMove Written.Push = Unit {0}
+IsStackMove Written.Pop = Unit {0}
+IsStackMove to = ⊥
+
+abbrev pub IsToldByte : Placement → Machine → Write → Component → Type 0
+IsToldByte p m w c = (o : ℕ) × (o < w.count) × (written_byte p m w.to (w.first + o) ≡ Some c)
+
+-- a write tells its bytes and the registers that have them, and a push or pop the depth and esp
+abbrev pub IsTold : Placement → Machine → Write → Component → Type 0
+IsTold p m w (Component.WholeRegister r) = (j : ℕ) × IsToldByte p m w (Component.RegisterByte r j)
+IsTold p m w Component.Depth = IsStackMove w.to
+IsTold p m w Component.Esp = IsStackMove w.to
+IsTold p m w c = IsToldByte p m w c
+
+abbrev pub IsToldByOne : Placement → Machine → List Write → Component → Type 0
+IsToldByOne p m [] c = ⊥
+IsToldByOne p m (w ∷ ws) c = IsTold p m w c ⊎ IsToldByOne p m ws c
+
+-- The bytes of a register operand are among those that its name names, and as many as the width says are all of them.
+abbrev pub HasBytes : Width → Slice → Bytes → Type 0
+HasBytes w slice Bytes.Whole = count_of Width.L (bytes_named slice) ≡ count_of w Bytes.Whole
+HasBytes w slice bytes = first_of bytes + count_of w bytes ≤ count_of Width.L (bytes_named slice)
+
+-- an operand has the bytes that are read or written there; a number is read from its lowest byte on
+abbrev pub FitsOperand : Width → Bytes → Option InstArg → Type 0
+FitsOperand w bytes (Some (InstArg.Register r slice)) = HasBytes w slice bytes
+FitsOperand w bytes (Some (InstArg.Number n)) = first_of bytes ≡ 0
+FitsOperand w bytes arg = Unit {0}
+
+abbrev pub FitsSite : Placement → Sym → Site → Type 0
+FitsSite p s (Site.Argument k bytes) = FitsOperand s.width bytes (operand_at p (slice_get s.args k))
+FitsSite p s site = Unit {0}
+
+abbrev pub FitsTarget : Placement → Sym → Target → Type 0
+FitsTarget p s (Target.Site site) = FitsSite p s site
+FitsTarget p s target = Unit {0}
+
+-- the operands of a placed line have the bytes that a row writes
+abbrev pub FitsTargets : Placement → Sym → List MicroOp → Type 0
+FitsTargets p s [] = Unit {0}
+FitsTargets p s (op ∷ ops) = FitsTarget p s op.target × FitsTargets p s ops
