@@ -10,3 +10,4 @@ pub mod ReadingLaws
 pub mod RegisterLaws
 pub mod Runs
 pub mod StepLaws
+pub mod WriteLaws

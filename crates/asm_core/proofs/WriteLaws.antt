@@ -1,20 +1,23 @@
 -- Beside the position a step changes only what the line's writes tell.
-use Rattle.std.proofs.Common.{◌≡◌, ◌⊎◌, inl, inr, ⊎_elim, ℕ, zero, suc, ◌+◌, ◌*◌, ◌/◌, ◌%◌, ◌^◌, ◌<◌, ◌≤◌, pos, List, [], ◌∷◌, length, slice_get, Option, None, Some, refl, ap, sym, subst, ◌∙◌, arith}
+use Rattle.std.proofs.Common.{◌≡◌, ◌⊎◌, inl, inr, ⊎_elim, ℕ, zero, suc, ◌+◌, ◌-◌, ◌*◌, ◌/◌, ◌%◌, ◌^◌, ◌<◌, ◌≤◌, pos, List, [], ◌∷◌, length, slice_get, Option, None, Some, refl, ap, sym, subst, ◌∙◌, arith}
+use Rattle.std.specs.List.{cons_option}
 use Rattle.asm_core.specs.Function.{bits_of}
 use Rattle.asm_core.specs.Machine.{reg_in}
 use Rattle.asm_core.specs.Memory.{modulo, address_of}
 use Rattle.asm_core.specs.MicroOps.{first_of, count_of, sized, bytes_named, within, arg_at, arg_destination, site_destination, destination_of, destinations_of, values_of, read_in, row_ended}
 use Rattle.asm_core.specs.Reading.Placed.{operand_under, operand_at, inst_under}
-use Rattle.asm_core.specs.Entries.{slice_with, line_arg, register_arg_of, pointed_arg, first_in_name, by_of, write_to_site, write_to, write_of, writes_of}
+use Rattle.asm_core.specs.Entries.{slice_with, arg_or_zero, line_arg, register_arg_of, pointed_arg, first_in_name, by_of, write_to_site, write_to, write_of, writes_of}
 use Rattle.asm_core.specs.RowLaws.{HoldsAfter, Component, ChangesOnly, IsAmong, LiesAt, IsHit, IsHitByOne, operand_byte, written_byte, IsStackMove, IsToldByte, IsTold, IsToldByOne, HasBytes, FitsOperand, FitsSite, FitsTarget, FitsTargets}
 use Rattle.asm_core.proofs.Keeping.{holds_after_then}
 use Rattle.asm_core.proofs.StepLaws.{row_changes}
 use Rattle.asm_core.specs.declared.reg.Reg.{Reg}
 use Rattle.asm_core.specs.declared.reg.Slice.{Slice}
+use Rattle.asm_core.specs.declared.flag.Flag.{Flag}
 use Rattle.asm_core.specs.declared.inst.Width.{Width}
 use Rattle.asm_core.specs.declared.inst.InstArg.{InstArg}
 use Rattle.asm_core.specs.declared.sym.Arg.{Arg}
 use Rattle.asm_core.specs.declared.sym.Sym.{Sym}
+use Rattle.asm_core.specs.declared.placement.Base.{Base}
 use Rattle.asm_core.specs.declared.placement.Form.{Form}
 use Rattle.asm_core.specs.declared.placement.Placement.{Placement}
 use Rattle.asm_core.specs.declared.micro_op.Bytes.{Bytes}
@@ -106,31 +109,79 @@ within_count w Slice.All Bytes.All h = refl
 -- bytes of a register that is used unasked, counted from the first of the least name that has them
 pub sized_first : (w : Width) (bytes : Bytes) → first_of (sized w bytes) ≡ first_of (bytes_named (slice_with (sized w bytes))) + first_in_name bytes
 sized_first Width.B Bytes.Whole = refl
+sized_first Width.B Bytes.Byte0 = refl
+sized_first Width.B Bytes.Byte1 = refl
+sized_first Width.B Bytes.Byte2 = refl
+sized_first Width.B Bytes.Byte3 = refl
+sized_first Width.B Bytes.Low16 = refl
+sized_first Width.B Bytes.High16 = refl
+sized_first Width.B Bytes.Upper24 = refl
+sized_first Width.B Bytes.All = refl
 sized_first Width.W Bytes.Whole = refl
+sized_first Width.W Bytes.Byte0 = refl
+sized_first Width.W Bytes.Byte1 = refl
+sized_first Width.W Bytes.Byte2 = refl
+sized_first Width.W Bytes.Byte3 = refl
+sized_first Width.W Bytes.Low16 = refl
+sized_first Width.W Bytes.High16 = refl
+sized_first Width.W Bytes.Upper24 = refl
+sized_first Width.W Bytes.All = refl
 sized_first Width.L Bytes.Whole = refl
+sized_first Width.L Bytes.Byte0 = refl
+sized_first Width.L Bytes.Byte1 = refl
+sized_first Width.L Bytes.Byte2 = refl
+sized_first Width.L Bytes.Byte3 = refl
+sized_first Width.L Bytes.Low16 = refl
+sized_first Width.L Bytes.High16 = refl
+sized_first Width.L Bytes.Upper24 = refl
+sized_first Width.L Bytes.All = refl
 sized_first Width.Q Bytes.Whole = refl
-sized_first w Bytes.Byte0 = refl
-sized_first w Bytes.Byte1 = refl
-sized_first w Bytes.Byte2 = refl
-sized_first w Bytes.Byte3 = refl
-sized_first w Bytes.Low16 = refl
-sized_first w Bytes.High16 = refl
-sized_first w Bytes.Upper24 = refl
-sized_first w Bytes.All = refl
+sized_first Width.Q Bytes.Byte0 = refl
+sized_first Width.Q Bytes.Byte1 = refl
+sized_first Width.Q Bytes.Byte2 = refl
+sized_first Width.Q Bytes.Byte3 = refl
+sized_first Width.Q Bytes.Low16 = refl
+sized_first Width.Q Bytes.High16 = refl
+sized_first Width.Q Bytes.Upper24 = refl
+sized_first Width.Q Bytes.All = refl
 
 pub sized_count : (w : Width) (bytes : Bytes) → count_of Width.L (sized w bytes) ≡ count_of w (sized w bytes)
 sized_count Width.B Bytes.Whole = refl
+sized_count Width.B Bytes.Byte0 = refl
+sized_count Width.B Bytes.Byte1 = refl
+sized_count Width.B Bytes.Byte2 = refl
+sized_count Width.B Bytes.Byte3 = refl
+sized_count Width.B Bytes.Low16 = refl
+sized_count Width.B Bytes.High16 = refl
+sized_count Width.B Bytes.Upper24 = refl
+sized_count Width.B Bytes.All = refl
 sized_count Width.W Bytes.Whole = refl
+sized_count Width.W Bytes.Byte0 = refl
+sized_count Width.W Bytes.Byte1 = refl
+sized_count Width.W Bytes.Byte2 = refl
+sized_count Width.W Bytes.Byte3 = refl
+sized_count Width.W Bytes.Low16 = refl
+sized_count Width.W Bytes.High16 = refl
+sized_count Width.W Bytes.Upper24 = refl
+sized_count Width.W Bytes.All = refl
 sized_count Width.L Bytes.Whole = refl
+sized_count Width.L Bytes.Byte0 = refl
+sized_count Width.L Bytes.Byte1 = refl
+sized_count Width.L Bytes.Byte2 = refl
+sized_count Width.L Bytes.Byte3 = refl
+sized_count Width.L Bytes.Low16 = refl
+sized_count Width.L Bytes.High16 = refl
+sized_count Width.L Bytes.Upper24 = refl
+sized_count Width.L Bytes.All = refl
 sized_count Width.Q Bytes.Whole = refl
-sized_count w Bytes.Byte0 = refl
-sized_count w Bytes.Byte1 = refl
-sized_count w Bytes.Byte2 = refl
-sized_count w Bytes.Byte3 = refl
-sized_count w Bytes.Low16 = refl
-sized_count w Bytes.High16 = refl
-sized_count w Bytes.Upper24 = refl
-sized_count w Bytes.All = refl
+sized_count Width.Q Bytes.Byte0 = refl
+sized_count Width.Q Bytes.Byte1 = refl
+sized_count Width.Q Bytes.Byte2 = refl
+sized_count Width.Q Bytes.Byte3 = refl
+sized_count Width.Q Bytes.Low16 = refl
+sized_count Width.Q Bytes.High16 = refl
+sized_count Width.Q Bytes.Upper24 = refl
+sized_count Width.Q Bytes.All = refl
 
 some_bytes : (bytes : Bytes) → 0 < count_of Width.L bytes
 some_bytes Bytes.Whole = omega arith
@@ -157,8 +208,8 @@ module _ (p : Placement) (m : Machine) (by : By) where
       by_component : (c : Component) → IsHit (Destination.Register r bytes) c → IsTold p m (record { to = Written.Arg arg; first = first; count = count; by = by }) c
       by_component (Component.WholeRegister q) hit = let some = some_bytes bytes in (first_of (bytes_named slice) + (first + 0), byte_told q 0 hit (omega arith))
       by_component (Component.RegisterByte q j) hit =
-          let low : first_of bytes ≤ j = hit.1 in
-          let high : j < first_of bytes + count_of Width.L bytes = hit.2 in
+          let low : first_of bytes ≤ j = hit.1.0 in
+          let high : j < first_of bytes + count_of Width.L bytes = hit.1.1 in
           let same : first_of (bytes_named slice) + (first + (j - first_of bytes)) ≡ j = omega arith in
           subst (λ k. IsToldByte p m (record { to = Written.Arg arg; first = first; count = count; by = by }) (Component.RegisterByte q k)) same (byte_told q (j - first_of bytes) hit.0 (omega arith))
       by_component (Component.FlagBit f) hit = absurd hit
@@ -231,3 +282,59 @@ module _ (p : Placement) (m : Machine) (by : By) where
       by_place (Some (InstArg.Number n)) is fits hit = absurd (none_hit c hit)
       by_place (Some (InstArg.Label n)) is fits hit = absurd (none_hit c hit)
       by_place None is fits hit = absurd (none_hit c hit)
+
+-- ---- a site, a target, a row
+
+module _ (p : Placement) (s : Sym) (m : Machine) where
+  -- an operand of the instruction is the line's under the placement; where there is none, nothing is hit
+  site_told : (by : By) (site : Site) (c : Component) → FitsSite p s site → IsHit (site_destination (inst_under p s) m site) c → IsTold p m (write_to_site s by site) c
+  site_told by (Site.Argument k bytes) c fits hit = by_number k fits hit
+    where
+      by_arg : (o : Option Arg) → FitsOperand s.width bytes (operand_at p o) → IsHit (arg_destination s.width bytes (operand_at p o) m) c
+          → IsTold p m (record { to = Written.Arg (arg_or_zero o); first = first_of bytes; count = count_of s.width bytes; by = by }) c
+      by_arg None fits hit = absurd hit
+      by_arg (Some arg) fits hit = argument_told p m by s arg bytes c fits hit
+
+      by_number : (k : ℕ) → FitsOperand s.width bytes (operand_at p (slice_get s.args k)) → IsHit (arg_destination s.width bytes (arg_at (inst_under p s) k) m) c
+          → IsTold p m (record { to = Written.Arg (line_arg s k); first = first_of bytes; count = count_of s.width bytes; by = by }) c
+      by_number zero fits hit = by_arg (slice_get s.args 0) fits hit
+      by_number (suc zero) fits hit = by_arg (slice_get s.args 1) fits hit
+      by_number (suc (suc zero)) fits hit = by_arg (slice_get s.args 2) fits hit
+      by_number (suc (suc (suc k))) fits hit = absurd hit
+  site_told by (Site.Register r bytes) c fits hit =
+      register_told p m by (register_arg_of r (slice_with (sized s.width bytes))) r (slice_with (sized s.width bytes)) (first_in_name bytes) (count_of s.width (sized s.width bytes)) (sized s.width bytes) c refl
+      (sized_first s.width bytes) (sized_count s.width bytes) hit
+  site_told by (Site.Pointed r) c fits hit =
+      memory_told p m by (pointed_arg r) (record { disp = pos 0; base = Some (Base.Reg r); index = None }) None 0 (bits_of s.width / 8) (reg_in r m) c refl (λ o. at_register (reg_in r m) o) hit
+    where
+      at_register : (a o : ℕ) → (a + o) % 2 ^ 32 ≡ ((0 % 2 ^ 32 + a + 0) % 2 ^ 32 + (0 + o)) % 2 ^ 32
+      at_register a o = omega arith
+  site_told by (Site.Flag f) c fits hit = flag_told p m by c f hit
+
+  target_told : (op : MicroOp) (c : Component) → FitsTarget p s op.target → IsHit (destination_of (inst_under p s) m op.target) c → (w : Write) × (write_of s op ≡ Some w) × IsTold p m w c
+  target_told op c fits hit = by_target op.target fits hit
+    where
+      by_target : (t : Target) → FitsTarget p s t → IsHit (destination_of (inst_under p s) m t) c → (w : Write) × (write_to s (by_of s op.function op.x) t ≡ Some w) × IsTold p m w c
+      by_target (Target.Site site) fits hit = (write_to_site s (by_of s op.function op.x) site, refl, site_told (by_of s op.function op.x) site c fits hit)
+      by_target Target.Push fits hit = (record { to = Written.Push; first = 0; count = 4; by = by_of s op.function op.x }, refl, push_told p m (by_of s op.function op.x) c hit)
+      by_target Target.Pop fits hit = (record { to = Written.Pop; first = 0; count = 0; by = by_of s op.function op.x }, refl, pop_told p m (by_of s op.function op.x) c hit)
+      by_target t fits hit = absurd hit
+
+  -- what is hit at a row's destinations, the row's writes tell
+  pub hit_is_told : (row : List MicroOp) (c : Component) → FitsTargets p s row → IsHitByOne (destinations_of (inst_under p s) m row) c → IsToldByOne p m (writes_of row s) c
+  hit_is_told [] c fits hit = absurd hit
+  hit_is_told (op ∷ ops) c fits (inl hit) =
+      let told = target_told op c fits.0 hit in
+      subst (λ o. IsToldByOne p m (cons_option o (writes_of ops s)) c) (sym told.1) (inl told.2)
+  hit_is_told (op ∷ ops) c fits (inr hit) = by_write (write_of s op) (hit_is_told ops c fits.1 hit)
+    where
+      by_write : (o : Option Write) → IsToldByOne p m (writes_of ops s) c → IsToldByOne p m (cons_option o (writes_of ops s)) c
+      by_write None told = told
+      by_write (Some w) told = inr told
+
+  -- the first law, in the words of the line's writes
+  pub changes_what_is_told : (row : List MicroOp) (goal choice : ℕ) (words : List ℕ) → FitsTargets p s row → HoldsAfter (ChangesOnly (IsToldByOne p m (writes_of row s)) m) (row_ended row (inst_under p s) goal choice words m)
+  changes_what_is_told row goal choice words fits =
+      holds_after_then (ChangesOnly (IsHitByOne (destinations_of (inst_under p s) m row)) m) (ChangesOnly (IsToldByOne p m (writes_of row s)) m) (row_ended row (inst_under p s) goal choice words m)
+      (λ next h. record { components = λ c missed. h.components c (λ hit. missed (hit_is_told row c fits hit)); layouts = h.layouts })
+      (row_changes row (inst_under p s) goal (values_of s.width (read_in (inst_under p s) choice words m) row) m)
