@@ -2,6 +2,7 @@ mod Examples
 pub mod FactLaws
 pub mod FlagLaws
 pub mod Keeping
+pub mod LastWrites
 pub mod MachineLaws
 pub mod PlacedLaws
 pub mod Puts

@@ -1,13 +1,13 @@
 -- Beside the position a step changes only what the line's writes tell.
-use Rattle.std.proofs.Common.{◌≡◌, ◌⊎◌, inl, inr, ⊎_elim, ℕ, zero, suc, ◌+◌, ◌-◌, ◌*◌, ◌/◌, ◌%◌, ◌^◌, ◌<◌, ◌≤◌, pos, List, [], ◌∷◌, length, slice_get, Option, None, Some, refl, ap, sym, subst, ◌∙◌, arith}
+use Rattle.std.proofs.Common.{◌≡◌, inl, inr, ℕ, zero, suc, ◌+◌, ◌-◌, ◌*◌, ◌/◌, ◌%◌, ◌^◌, ◌<◌, ◌≤◌, pos, List, [], ◌∷◌, slice_get, Option, None, Some, refl, ap, sym, subst, ◌∙◌, arith}
 use Rattle.std.specs.List.{cons_option}
 use Rattle.asm_core.specs.Function.{bits_of}
 use Rattle.asm_core.specs.Machine.{reg_in}
-use Rattle.asm_core.specs.Memory.{modulo, address_of}
+use Rattle.asm_core.specs.Memory.{address_of}
 use Rattle.asm_core.specs.MicroOps.{first_of, count_of, sized, bytes_named, within, arg_at, arg_destination, site_destination, destination_of, destinations_of, values_of, read_in, row_ended}
 use Rattle.asm_core.specs.Reading.Placed.{operand_under, operand_at, inst_under}
 use Rattle.asm_core.specs.Entries.{slice_with, arg_or_zero, line_arg, register_arg_of, pointed_arg, first_in_name, by_of, write_to_site, write_to, write_of, writes_of}
-use Rattle.asm_core.specs.RowLaws.{HoldsAfter, Component, ChangesOnly, IsAmong, LiesAt, IsHit, IsHitByOne, operand_byte, written_byte, IsStackMove, IsToldByte, IsTold, IsToldByOne, HasBytes, FitsOperand, FitsSite, FitsTarget, FitsTargets}
+use Rattle.asm_core.specs.RowLaws.{HoldsAfter, Component, ChangesOnly, IsHit, IsHitByOne, operand_byte, IsToldByte, IsTold, IsToldByOne, HasBytes, FitsOperand, FitsSite, FitsTarget, FitsTargets}
 use Rattle.asm_core.proofs.Keeping.{holds_after_then}
 use Rattle.asm_core.proofs.StepLaws.{row_changes}
 use Rattle.asm_core.specs.declared.reg.Reg.{Reg}

@@ -1,12 +1,12 @@
 -- What holds of the steps of every row, whatever its micro-operations are.
-use Rattle.std.specs.Prelude.{◌≡◌, ◌⊎◌, ℕ, zero, suc, ◌+◌, ◌*◌, ◌/◌, ◌%◌, ◌^◌, ◌<◌, ◌≤◌, List, [], ◌∷◌, length, slice_get, slice_index, Option, None, Some}
+use Rattle.std.specs.Prelude.{◌≡◌, ◌⊎◌, ℕ, zero, suc, ◌+◌, ◌-◌, ◌*◌, ◌/◌, ◌%◌, ◌^◌, ◌<◌, ◌≤◌, List, [], ◌∷◌, drop, length, slice_get, slice_index, Option, None, Some}
 use Rattle.std.specs.Int.{bit_at}
-use Rattle.asm_core.specs.Entries.{origin_rank, input_origin, fact_in, facts_of, line_facts, names_where, is_control, known_in}
-use Rattle.asm_core.specs.Function.{bit}
+use Rattle.asm_core.specs.Entries.{origin_rank, input_origin, fact_in, facts_of, line_facts, names_where, is_control, known_in, write_of, writes_of}
+use Rattle.asm_core.specs.Function.{bits_of, bit}
 use Rattle.asm_core.specs.Flag.{flag_in}
 use Rattle.asm_core.specs.Machine.{reg_in, byte_at, layouts_of}
 use Rattle.asm_core.specs.Memory.{modulo, address_of}
-use Rattle.asm_core.specs.MicroOps.{Stepped, first_of, count_of, bytes_named, arg_at, values_of, read_in, is_over, divides, next_of, destinations_of, row_ended}
+use Rattle.asm_core.specs.MicroOps.{Stepped, first_of, count_of, sized, bytes_named, arg_at, values_of, read_in, is_over, divides, next_of, destinations_of, row_ended}
 use Rattle.asm_core.specs.Reading.Placed.{operand_under, operand_at, inst_under}
 use Rattle.asm_core.specs.Rows.{inst_row, line_row, row_step}
 use Rattle.asm_core.specs.declared.reg.Reg.{Reg}
@@ -25,6 +25,9 @@ use Rattle.asm_core.specs.declared.micro_op.Target.{Target}
 use Rattle.asm_core.specs.declared.micro_op.Input.{Input}
 use Rattle.asm_core.specs.declared.micro_op.Origin.{Origin}
 use Rattle.asm_core.specs.declared.micro_op.Destination.{Destination}
+use Rattle.asm_core.specs.declared.micro_op.Function.{Function}
+use Rattle.asm_core.specs.declared.row.Source.{Source}
+use Rattle.asm_core.specs.declared.row.By.{By}
 use Rattle.asm_core.specs.declared.row.Written.{Written}
 use Rattle.asm_core.specs.declared.row.Write.{Write}
 use Rattle.asm_core.specs.declared.machine.Machine.{Machine}
@@ -212,3 +215,70 @@ FitsTarget p s target = Unit {0}
 abbrev pub FitsTargets : Placement → Sym → List MicroOp → Type 0
 FitsTargets p s [] = Unit {0}
 FitsTargets p s (op ∷ ops) = FitsTarget p s op.target × FitsTargets p s ops
+
+-- ---- what a step leaves in the bytes that it writes
+
+-- a value as a component holds it: a flag is its lowest bit
+abbrev pub held : Component → ℕ → ℕ
+held (Component.FlagBit f) v = v % 2
+held c v = v
+
+-- byte o of an operand's value, counted from the first that its name names
+abbrev pub operand_value : Option InstArg → ℕ → Machine → ℕ
+operand_value (Some (InstArg.Register r slice)) o m = byte_of (first_of (bytes_named slice) + o) (reg_in r m)
+operand_value (Some (InstArg.Number n)) o m = nth_byte o (modulo n 64)
+operand_value (Some (InstArg.Address form k)) o m = byte_at m.ranges ((address_of form m + o) % 2 ^ 32)
+operand_value arg o m = 0
+
+-- byte o of what can be copied
+abbrev pub source_byte : Placement → Machine → Source → ℕ → ℕ
+source_byte p m (Source.Arg arg) o = operand_value (operand_under p arg) o m
+source_byte p m Source.Top o = slice_index m.scratch (4 * (m.scratch_top - 1) + o)
+source_byte p m source o = 0
+
+-- byte o of what a write says of its value
+abbrev pub byte_by : Placement → Machine → By → ℕ → Option ℕ
+byte_by p m (By.Copy source first) o = Some (source_byte p m source (first + o))
+byte_by p m (By.Set b) o = Some (nth_byte o (bit b))
+byte_by p m By.Named o = None
+
+-- how many bytes of a site are read or written
+abbrev pub byte_count : Width → Site → ℕ
+byte_count w (Site.Argument k bytes) = count_of w bytes
+byte_count w (Site.Register r bytes) = count_of w (sized w bytes)
+byte_count w (Site.Pointed r) = bits_of w / 8
+byte_count w (Site.Flag f) = 1
+
+abbrev pub target_count : Width → Target → ℕ
+target_count w (Target.Site site) = byte_count w site
+target_count w Target.Push = 4
+target_count w target = 0
+
+-- what is copied has the bytes that are written, and what is set is a bit
+abbrev pub FitsInput : Placement → Sym → Function → Input → ℕ → Type 0
+FitsInput p s Function.Copy (Input.Read site) count = FitsSite p s site × (count ≤ byte_count s.width site)
+FitsInput p s Function.Copy Input.Top count = count ≤ 4
+FitsInput p s Function.Set (Input.Number n) count = n ≤ 1
+FitsInput p s f x count = Unit {0}
+
+-- the operands of a placed line have the bytes that a row copies
+abbrev pub FitsCopies : Placement → Sym → List MicroOp → Type 0
+FitsCopies p s [] = Unit {0}
+FitsCopies p s (op ∷ ops) = FitsInput p s op.function op.x (target_count s.width op.target) × FitsCopies p s ops
+
+-- c is byte o of what the row's micro-operation k writes, and no later one writes it too
+pub record IsLast (p : Placement) (s : Sym) (row : List MicroOp) (m : Machine) (k o : ℕ) (w : Write) (c : Component) : Type 0 where
+  pub op : MicroOp
+  pub is_op : slice_get row k ≡ Some op
+  pub is_write : write_of s op ≡ Some w
+  pub within : o < w.count
+  pub here : written_byte p m w.to (w.first + o) ≡ Some c
+  pub last : IsToldByOne p m (writes_of (drop (k + 1) row) s) c → ⊥
+
+-- what is written is left there
+abbrev pub LeavesValues : Placement → Sym → List MicroOp → List ℕ → Machine → Machine → Type 0
+LeavesValues p s row vs before after = (k o : ℕ) (w : Write) (c : Component) → IsLast p s row before k o w c → component_in c after ≡ held c (nth_byte o (slice_index vs k))
+
+-- a copy leaves the source's bytes as they were before, and what is set is left so
+abbrev pub LeavesCopies : Placement → Sym → List MicroOp → Machine → Machine → Type 0
+LeavesCopies p s row before after = (k o : ℕ) (w : Write) (c : Component) (n : ℕ) → IsLast p s row before k o w c → byte_by p before w.by o ≡ Some n → component_in c after ≡ held c n
