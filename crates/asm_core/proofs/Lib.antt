@@ -1,4 +1,5 @@
 mod Examples
+pub mod BytesRead
 pub mod FactLaws
 pub mod FlagLaws
 pub mod Keeping
