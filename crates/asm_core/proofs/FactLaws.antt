@@ -6,7 +6,7 @@ use Rattle.std.proofs.lemmas.Bool.{lt-ltb}
 use Rattle.std.proofs.lemmas.Option.{slice_get_past}
 use Rattle.asm_core.specs.Function.{bit, shift_count, value_of}
 use Rattle.asm_core.specs.MicroOps.{input_of, op_value, values_from, values_of, any_value, is_zero, is_set, is_jump, is_stay, is_turn, is_divide, is_over, divides, next_of, arg_at, read_arg, read_in}
-use Rattle.asm_core.specs.Reading.{placed_at, instance_of}
+use Rattle.asm_core.specs.Reading.Placed.{operand_at, inst_under}
 use Rattle.asm_core.specs.Entries.{origin_rank, input_origin, named_alone, no_fact, fact_in, fact_for, is_sure, value_if_known, known_from, names_of_three, picked, fact_joined, op_fact, facts_from, facts_of, names_where, is_control, known_number, known_in}
 use Rattle.asm_core.specs.RowLaws.{AgreesOn, Knows, NamesDecide, ReadsKnown}
 use Rattle.asm_core.specs.declared.inst.Width.{Width}
@@ -243,17 +243,17 @@ names_decide row w known = record { values = λ env env' k knows knows' h. named
 pub reads_known : (p : Placement) (s : Sym) → length s.args ≤ 3 → ReadsKnown p s
 reads_known p s few = record { each = λ choice words m. record { is = is choice words m } }
   where
-    by_arg : (m : Machine) (bytes : Bytes) (o : Option Arg) (n : ℕ) → known_number s.width bytes o ≡ Some n → read_arg s.width bytes (placed_at p o) m ≡ n
+    by_arg : (m : Machine) (bytes : Bytes) (o : Option Arg) (n : ℕ) → known_number s.width bytes o ≡ Some n → read_arg s.width bytes (operand_at p o) m ≡ n
     by_arg m bytes (Some (Arg.Number z)) n e = cc
     by_arg m bytes o n e = cc
 
-    at_arg : (m : Machine) (k : ℕ) (bytes : Bytes) (n : ℕ) → known_number s.width bytes (slice_get s.args k) ≡ Some n → read_arg s.width bytes (arg_at (instance_of p s) k) m ≡ n
+    at_arg : (m : Machine) (k : ℕ) (bytes : Bytes) (n : ℕ) → known_number s.width bytes (slice_get s.args k) ≡ Some n → read_arg s.width bytes (arg_at (inst_under p s) k) m ≡ n
     at_arg m zero bytes n e = by_arg m bytes (slice_get s.args 0) n e
     at_arg m (suc zero) bytes n e = by_arg m bytes (slice_get s.args 1) n e
     at_arg m (suc (suc zero)) bytes n e = by_arg m bytes (slice_get s.args 2) n e
     at_arg m (suc (suc (suc k))) bytes n e = let none : slice_get s.args (suc (suc (suc k))) ≡ None = slice_get_past s.args (suc (suc (suc k))) (omega arith) in cc (ap (known_number s.width bytes) none)
 
-    is : (choice : ℕ) (words : List ℕ) (m : Machine) (x : Input) (n : ℕ) → known_in s x ≡ Some n → read_in (instance_of p s) choice words m x ≡ n
+    is : (choice : ℕ) (words : List ℕ) (m : Machine) (x : Input) (n : ℕ) → known_in s x ≡ Some n → read_in (inst_under p s) choice words m x ≡ n
     is choice words m (Input.Read (Site.Argument k bytes)) n e = at_arg m k bytes n e
     is choice words m (Input.Kept (Site.Argument k bytes)) n e = at_arg m k bytes n e
     is choice words m x n e = cc

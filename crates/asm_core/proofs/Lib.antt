@@ -1,8 +1,11 @@
 mod Examples
+pub mod BytesRead
 pub mod FactLaws
 pub mod FlagLaws
 pub mod Keeping
+pub mod LastWrites
 pub mod MachineLaws
+pub mod PlacedLaws
 pub mod Puts
 pub mod ReadBack
 pub mod ReadingLaws
@@ -10,3 +13,4 @@ pub mod RegisterLaws
 pub mod Runs
 pub mod ShapeLaws
 pub mod StepLaws
+pub mod WriteLaws

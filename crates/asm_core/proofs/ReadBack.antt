@@ -79,7 +79,7 @@ byte_read a b (r ∷ rs) h =
         ∙ get_or-set_same r.bytes (a - r.base) b 0 within
 
 -- a written byte leaves which addresses are in ranges
-covered_kept : (a b : ℕ) (rs : List Range) (x : ℕ) → list_any (λ r. covers r x) (with_byte a b rs) ≡ list_any (λ r. covers r x) rs
+pub covered_kept : (a b : ℕ) (rs : List Range) (x : ℕ) → list_any (λ r. covers r x) (with_byte a b rs) ≡ list_any (λ r. covers r x) rs
 covered_kept a b [] x = refl
 covered_kept a b (r ∷ rs) x = ap (λ t. t || list_any (λ q. covers q x) (with_byte a b rs)) (put_covers a b r x) ∙ ap (λ t. covers r x || t) (covered_kept a b rs x)
 

@@ -166,7 +166,7 @@ register_arg_of r slice = Arg.Register (Place.Reg r) slice
 abbrev pub pointed_arg : Reg → Arg
 pointed_arg r = Arg.Address (Disp.Number (pos 0)) (Some (Place.Reg r)) None
 
-abbrev arg_or_zero : Option Arg → Arg
+abbrev pub arg_or_zero : Option Arg → Arg
 arg_or_zero (Some arg) = arg
 arg_or_zero None = Arg.Number (pos 0)
 

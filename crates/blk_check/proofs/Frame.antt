@@ -8,7 +8,9 @@ use Rattle.asm_core.specs.Placement.{spot_of, value_registers, is_output, IsAllo
 use Rattle.asm_core.specs.Shape.{shapes_of}
 use Rattle.asm_core.specs.Entry.{IsEntry}
 use Rattle.asm_core.specs.Machine.{Location, Keeps, value_at, reg_in}
-use Rattle.asm_core.specs.Reading.{register_arg, placed_at, instance_of, code_of}
+use Rattle.asm_core.specs.Reading.{code_of}
+use Rattle.asm_core.specs.Reading.Placed.{spot_place, operand_at, inst_under}
+use Rattle.asm_core.specs.Reading.Text.{register_arg}
 use Rattle.asm_core.specs.Reg.{reg_number}
 use Rattle.asm_core.specs.MicroOps.{arg_at, arg_destination, destinations_of, put, read_arg, read_in, values_of, row_ended}
 use Rattle.asm_core.specs.RowLaws.{HoldsAfter, Component, component_in, ChangesOnly, IsHit, IsHitByOne}
@@ -33,7 +35,6 @@ use Rattle.asm_core.specs.declared.micro_op.Destination.{Destination}
 use Rattle.asm_core.specs.declared.inst.Op.{Op}
 use Rattle.asm_core.specs.declared.inst.Width.{Width}
 use Rattle.asm_core.specs.declared.inst.Inst.{Inst}
-use Rattle.asm_core.specs.declared.inst.InstArg.{InstArg}
 use Rattle.asm_core.specs.declared.sym.Place.{Place}
 use Rattle.asm_core.specs.declared.sym.Arg.{Arg}
 use Rattle.asm_core.specs.declared.sym.Sym.{Sym}
@@ -110,16 +111,9 @@ role_cases o = go o.role
     go Role.Out = inr refl
     go Role.InOut = inr refl
 
--- an operand that is placed in a register is in it
-in_register : (spot : Spot) (r : Reg) → register_arg spot Slice.All ≡ Some (InstArg.Register r Slice.All) → IsMember r (value_registers spot)
-in_register (Spot.Register q) r e = let same : r ≡ q = cc in inl same
-in_register Spot.Pair r e = cc
-in_register (Spot.Memory form) r e = cc
-in_register (Spot.Number n) r e = cc
-
 -- the second operand of a line's instruction is where operand 0 is
-written_arg : (p : Placement) (line : Sym) → IsFirstLine line → arg_at (instance_of p line) 1 ≡ register_arg (spot_of p 0) Slice.All
-written_arg p line h = ap (λ args. arg_at (instance_of p (record line { args = args })) 1) h.args
+written_arg : (p : Placement) (line : Sym) → IsFirstLine line → arg_at (inst_under p line) 1 ≡ register_arg (spot_place 0 (spot_of p 0)) Slice.All
+written_arg p line h = ap (λ args. arg_at (inst_under p (record line { args = args })) 1) h.args
 
 is_operand_true : (arg : Option Arg) → is_operand 0 arg ≡ true → arg ≡ Some (operand 0)
 is_operand_true (Some (Arg.Register (Place.Operand j) Slice.All)) e = ap (λ k. Some (Arg.Register (Place.Operand k) Slice.All)) (sym (eqb-true 0 j e))
@@ -130,13 +124,13 @@ is_mov_true Op.Mov e = refl
 is_mov_true op e = cc
 
 -- a line that moves operand 0 to itself reads where it writes
-same_args : (p : Placement) (line : Sym) → IsFirstLine line → is_operand 0 (source_in line) ≡ true → arg_at (instance_of p line) 0 ≡ arg_at (instance_of p line) 1
-same_args p line h e = ap (placed_at p) (is_operand_true (source_in line) e) ∙ sym (written_arg p line h)
+same_args : (p : Placement) (line : Sym) → IsFirstLine line → is_operand 0 (source_in line) ≡ true → arg_at (inst_under p line) 0 ≡ arg_at (inst_under p line) 1
+same_args p line h e = ap (operand_at p) (is_operand_true (source_in line) e) ∙ sym (written_arg p line h)
 
 -- the row of a line's instruction, given that of its operation
-row_is : (p : Placement) (line : Sym) (op : Op) → IsFirstLine line → line.op ≡ op → inst_row (instance_of p line) ≡ row_of op line.width (arg_count (instance_of p line))
+row_is : (p : Placement) (line : Sym) (op : Op) → IsFirstLine line → line.op ≡ op → inst_row (inst_under p line) ≡ row_of op line.width (arg_count (inst_under p line))
 row_is p line op h is_op =
-    ap (λ r. repeated r (row_of line.op line.width (arg_count (instance_of p line)))) h.repeat ∙ ap (λ o. row_of o line.width (arg_count (instance_of p line))) is_op
+    ap (λ r. repeated r (row_of line.op line.width (arg_count (inst_under p line)))) h.repeat ∙ ap (λ o. row_of o line.width (arg_count (inst_under p line))) is_op
 
 -- what a location is among the components of a state
 abbrev component_of : Location → Component
@@ -170,19 +164,22 @@ moved_on m n = record { values = λ l free. at_kept l; layouts = refl }
 
 -- a register that is written with its own value leaves the state as it was
 own_value_put : (w : Width) (spot : Spot) (n : ℕ) (m : Machine) → AreWords m
-    → Keeps (λ l. ⊥) m (record (put (arg_destination w Bytes.Whole (register_arg spot Slice.All) m) (read_arg w Bytes.Whole (register_arg spot Slice.All) m) m) { at = n })
-own_value_put w (Spot.Register r) n m fits =
-    let small = word_small m r fits in
-    let same : reg_in r m % 2 ^ 32 ≡ reg_in r m = omega arith in
-    subst (λ regs. Keeps (λ l. ⊥) m (record m { regs = regs; at = n })) (sym (ap (slice_set m.regs (reg_number r)) same ∙ own_value_kept r m)) (moved_on m n)
-own_value_put w spot n m fits = moved_on m n
+    → Keeps (λ l. ⊥) m (record (put (arg_destination w Bytes.Whole (register_arg (spot_place 0 spot) Slice.All) m) (read_arg w Bytes.Whole (register_arg (spot_place 0 spot) Slice.All) m) m) { at = n })
+own_value_put w spot n m fits = by_place (spot_place 0 spot)
+  where
+    by_place : (place : Place) → Keeps (λ l. ⊥) m (record (put (arg_destination w Bytes.Whole (register_arg place Slice.All) m) (read_arg w Bytes.Whole (register_arg place Slice.All) m) m) { at = n })
+    by_place (Place.Operand k) = moved_on m n
+    by_place (Place.Reg r) =
+        let small = word_small m r fits in
+        let same : reg_in r m % 2 ^ 32 ≡ reg_in r m = omega arith in
+        subst (λ regs. Keeps (λ l. ⊥) m (record m { regs = regs; at = n })) (sym (ap (slice_set m.regs (reg_number r)) same ∙ own_value_kept r m)) (moved_on m n)
 
 -- a move of operand 0 to itself changes nothing
 self_move_keeps : (p : Placement) (line : Sym) → IsFirstLine line → line.op ≡ Op.Mov → is_operand 0 (source_in line) ≡ true → (goal choice : ℕ) (words : List ℕ) (m : Machine) → AreWords m
-    → HoldsAfter (Keeps (λ l. ⊥) m) (row_step (instance_of p line) goal choice words m)
+    → HoldsAfter (Keeps (λ l. ⊥) m) (row_step (inst_under p line) goal choice words m)
 self_move_keeps p line h moves own goal choice words m fits =
-    subst (λ row. HoldsAfter (Keeps (λ l. ⊥) m) (row_ended row (instance_of p line) goal choice words m)) (sym (row_is p line Op.Mov h moves))
-    (ended_holds (Keeps (λ l. ⊥) m) mov_row (instance_of p line) goal (values_of line.width (read_in (instance_of p line) choice words m) mov_row) m
+    subst (λ row. HoldsAfter (Keeps (λ l. ⊥) m) (row_ended row (inst_under p line) goal choice words m)) (sym (row_is p line Op.Mov h moves))
+    (ended_holds (Keeps (λ l. ⊥) m) mov_row (inst_under p line) goal (values_of line.width (read_in (inst_under p line) choice words m) mov_row) m
     (λ e. cc)
     (λ e. subst₂ (λ s d. Keeps (λ l. ⊥) m (record (put (arg_destination line.width Bytes.Whole d m) (read_arg line.width Bytes.Whole s m) m) { at = m.at + 1 }))
     (sym (same_args p line h own ∙ written_arg p line h)) (sym (written_arg p line h)) (own_value_put line.width (spot_of p 0) (m.at + 1) m fits)))
@@ -191,15 +188,18 @@ self_move_keeps p line h moves own goal choice words m fits =
 
 module _ (i : Interface) (s : Shape) (p : Placement) (entry : Machine) (lines : List Sym) where
   -- the place of operand 0 may change, where it is an output
-  operand_may : (o : OperandIface) (w : Width) (m : Machine) → slice_get i.operands 0 ≡ Some o → is_output o.role ≡ true → (l : Location) → IsHit (arg_destination w Bytes.Whole (register_arg (spot_of p 0) Slice.All) m) (component_of l) → MayChange i s p entry l
+  operand_may : (o : OperandIface) (w : Width) (m : Machine) → slice_get i.operands 0 ≡ Some o → is_output o.role ≡ true → (l : Location) → IsHit (arg_destination w Bytes.Whole (register_arg (spot_place 0 (spot_of p 0)) Slice.All) m) (component_of l) → MayChange i s p entry l
   operand_may o w m found output l hit = by_spot (spot_of p 0) refl l hit
     where
-      by_spot : (spot : Spot) → spot_of p 0 ≡ spot → (l : Location) → IsHit (arg_destination w Bytes.Whole (register_arg spot Slice.All) m) (component_of l) → MayChange i s p entry l
+      by_spot : (spot : Spot) → spot_of p 0 ≡ spot → (l : Location) → IsHit (arg_destination w Bytes.Whole (register_arg (spot_place 0 spot) Slice.All) m) (component_of l) → MayChange i s p entry l
       by_spot (Spot.Register r) e (Location.Register q) hit = inl (record { number = 0; operand = o; is_operand = found; output = output; here = subst (λ x. IsMember q (value_registers x)) (sym e) (inl (sym hit)) })
       by_spot (Spot.Register r) e (Location.FlagBit f) hit = absurd hit
       by_spot (Spot.Register r) e (Location.Byte a) hit = absurd hit
       by_spot (Spot.Register r) e Location.Esp hit = absurd hit
-      by_spot Spot.Pair e l hit = absurd hit
+      by_spot Spot.Pair e (Location.Register q) hit = inl (record { number = 0; operand = o; is_operand = found; output = output; here = subst (λ x. IsMember q (value_registers x)) (sym e) (inl (sym hit)) })
+      by_spot Spot.Pair e (Location.FlagBit f) hit = absurd hit
+      by_spot Spot.Pair e (Location.Byte a) hit = absurd hit
+      by_spot Spot.Pair e Location.Esp hit = absurd hit
       by_spot (Spot.Memory form) e l hit = absurd hit
       by_spot (Spot.Number n) e l hit = absurd hit
 
@@ -216,10 +216,10 @@ module _ (i : Interface) (s : Shape) (p : Placement) (entry : Machine) (lines : 
 
   -- what an accepted line writes may change, where operand 0 is an output
   line_may : (o : OperandIface) (line : Sym) (m : Machine) → slice_get i.operands 0 ≡ Some o → is_output o.role ≡ true → IsFirstLine line → (i.cc ≡ false → is_mov line.op ≡ true)
-      → (l : Location) → IsHitByOne (destinations_of (instance_of p line) m (inst_row (instance_of p line))) (component_of l) → MayChange i s p entry l
+      → (l : Location) → IsHitByOne (destinations_of (inst_under p line) m (inst_row (inst_under p line))) (component_of l) → MayChange i s p entry l
   line_may o line m found output h moves l hit = ⊎_elim move sum h.is_op
     where
-      written : IsHit (arg_destination line.width Bytes.Whole (arg_at (instance_of p line) 1) m) (component_of l) → MayChange i s p entry l
+      written : IsHit (arg_destination line.width Bytes.Whole (arg_at (inst_under p line) 1) m) (component_of l) → MayChange i s p entry l
       written x = operand_may o line.width m found output l (subst (λ a. IsHit (arg_destination line.width Bytes.Whole a m) (component_of l)) (written_arg p line h) x)
 
       declared : line.op ≡ Op.Add → IsTrue i.cc
@@ -228,8 +228,8 @@ module _ (i : Interface) (s : Shape) (p : Placement) (entry : Machine) (lines : 
           sum_is_no_move : line.op ≡ Op.Add → is_mov line.op ≡ true → ⊥
           sum_is_no_move a b = let c : is_mov Op.Add ≡ true = subst (λ op. is_mov op ≡ true) a b in cc
 
-      of_row : (op : Op) → line.op ≡ op → IsHitByOne (destinations_of (instance_of p line) m (row_of op line.width (arg_count (instance_of p line)))) (component_of l)
-      of_row op is_op = subst (λ row. IsHitByOne (destinations_of (instance_of p line) m row) (component_of l)) (row_is p line op h is_op) hit
+      of_row : (op : Op) → line.op ≡ op → IsHitByOne (destinations_of (inst_under p line) m (row_of op line.width (arg_count (inst_under p line)))) (component_of l)
+      of_row op is_op = subst (λ row. IsHitByOne (destinations_of (inst_under p line) m row) (component_of l)) (row_is p line op h is_op) hit
 
       move : line.op ≡ Op.Mov → MayChange i s p entry l
       move is_op = ⊎_elim written (λ none. absurd none) (of_row Op.Mov is_op)
@@ -239,21 +239,21 @@ module _ (i : Interface) (s : Shape) (p : Placement) (entry : Machine) (lines : 
 
   -- from every state the step of an accepted line keeps what may not change
   pub line_keeps : (o : OperandIface) → slice_get i.operands 0 ≡ Some o → IsAccepted i lines → (k : ℕ) (line : Sym) → slice_get lines k ≡ Some line → IsFirstLine line → (goal choice : ℕ) (words : List ℕ) (m : Machine) → AreWords m
-      → HoldsAfter (Keeps (MayChange i s p entry) m) (row_step (instance_of p line) goal choice words m)
+      → HoldsAfter (Keeps (MayChange i s p entry) m) (row_step (inst_under p line) goal choice words m)
   line_keeps o found ok k line at h goal choice words m fits = ⊎_elim input output (role_cases o)
     where
-      input : is_input_alone (Some o) ≡ true → HoldsAfter (Keeps (MayChange i s p entry) m) (row_step (instance_of p line) goal choice words m)
+      input : is_input_alone (Some o) ≡ true → HoldsAfter (Keeps (MayChange i s p entry) m) (row_step (inst_under p line) goal choice words m)
       input alone =
           let moves = both (is_mov line.op) (is_operand 0 (source_in line)) (ok.input (subst (λ x. is_input_alone x ≡ true) (sym found) alone) k line at) in
-          holds_after_then (Keeps (λ l. ⊥) m) (Keeps (MayChange i s p entry) m) (row_step (instance_of p line) goal choice words m)
+          holds_after_then (Keeps (λ l. ⊥) m) (Keeps (MayChange i s p entry) m) (row_step (inst_under p line) goal choice words m)
           (λ next c. keeps_weaken (λ l. ⊥) (MayChange i s p entry) m next (λ l none. absurd none) c)
           (self_move_keeps p line h (is_mov_true line.op moves.0) moves.1 goal choice words m fits)
 
-      output : is_output o.role ≡ true → HoldsAfter (Keeps (MayChange i s p entry) m) (row_step (instance_of p line) goal choice words m)
+      output : is_output o.role ≡ true → HoldsAfter (Keeps (MayChange i s p entry) m) (row_step (inst_under p line) goal choice words m)
       output out =
-          holds_after_then (ChangesOnly (IsHitByOne (destinations_of (instance_of p line) m (inst_row (instance_of p line)))) m) (Keeps (MayChange i s p entry) m) (row_step (instance_of p line) goal choice words m)
-          (λ next c. kept_by (IsHitByOne (destinations_of (instance_of p line) m (inst_row (instance_of p line)))) (MayChange i s p entry) m next (line_may o line m found out h (λ free. ok.flags free k line at)) c)
-          (step_changes (instance_of p line) goal choice words m)
+          holds_after_then (ChangesOnly (IsHitByOne (destinations_of (inst_under p line) m (inst_row (inst_under p line)))) m) (Keeps (MayChange i s p entry) m) (row_step (inst_under p line) goal choice words m)
+          (λ next c. kept_by (IsHitByOne (destinations_of (inst_under p line) m (inst_row (inst_under p line)))) (MayChange i s p entry) m next (line_may o line m found out h (λ free. ok.flags free k line at)) c)
+          (step_changes (inst_under p line) goal choice words m)
 
   code_keeps : (o : OperandIface) → slice_get i.operands 0 ≡ Some o → IsAccepted i lines → AreFirstLines lines → IsKept (λ m. Keeps (MayChange i s p entry) entry m × AreWords m) (code_of p lines)
   code_keeps o found ok first = record { each = each }
@@ -261,10 +261,10 @@ module _ (i : Interface) (s : Shape) (p : Placement) (entry : Machine) (lines : 
       each : (m : Machine) (inst : Inst) (choice : ℕ) (words : List ℕ) → slice_get (code_of p lines).insts m.at ≡ Some inst → Keeps (MayChange i s p entry) entry m × AreWords m
           → HoldsAfter (λ next. Keeps (MayChange i s p entry) entry next × AreWords next) (row_step inst (slice_index (code_of p lines).goals m.at) choice words m)
       each m inst choice words at h =
-          let placed = mapped (instance_of p) (slice_get lines m.at) inst (sym (slice_get-map (instance_of p) lines m.at) ∙ at) in
+          let placed = mapped (inst_under p) (slice_get lines m.at) inst (sym (slice_get-map (inst_under p) lines m.at) ∙ at) in
           holds_after_both (Keeps (MayChange i s p entry) entry) AreWords (row_step inst (slice_index (code_of p lines).goals m.at) choice words m)
           (subst (λ x. HoldsAfter (Keeps (MayChange i s p entry) entry) (row_step x (slice_index (code_of p lines).goals m.at) choice words m)) (sym placed.2)
-          (holds_after_then (Keeps (MayChange i s p entry) m) (Keeps (MayChange i s p entry) entry) (row_step (instance_of p placed.0) (slice_index (code_of p lines).goals m.at) choice words m)
+          (holds_after_then (Keeps (MayChange i s p entry) m) (Keeps (MayChange i s p entry) entry) (row_step (inst_under p placed.0) (slice_index (code_of p lines).goals m.at) choice words m)
           (λ next k. keeps_trans (MayChange i s p entry) entry m next h.0 k)
           (line_keeps o found ok m.at placed.0 placed.1 (first.each m.at placed.0 placed.1) (slice_index (code_of p lines).goals m.at) choice words m h.1)))
           (step_words inst (slice_index (code_of p lines).goals m.at) choice words m h.1)
