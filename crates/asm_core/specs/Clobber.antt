@@ -1,6 +1,6 @@
 -- The names of a clobber list (GCC manual, "Clobbers and Scratch Registers"). The part of a register stands for the whole of
 -- it. A name that isn't here, as that of the stack pointer, lies outside this project's tables.
-use Rattle.std.specs.Prelude.{ℕ, ◌^◌, ◌==◌, ◌||◌, nat_eq, bit_or, fold, find, List, [], ◌∷◌, codes, Bool, false, not, is_some, Option, None, Some, option_map, slice_index, drop, if◌then◌else◌}
+use Rattle.std.specs.Prelude.{ℕ, ◌^◌, ◌==◌, ◌||◌, bit_or, fold, List, [], ◌∷◌, codes, Bool, false, not, is_some, Option, None, Some, slice_index, drop, if◌then◌else◌}
 use Rattle.std.specs.List.{list_any}
 use Rattle.asm_core.specs.Reg.{reg_number}
 use Rattle.asm_core.specs.Cond.{entry_named}

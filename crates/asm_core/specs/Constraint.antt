@@ -1,6 +1,6 @@
 -- What the text of a constraint says (GCC manual, "Simple Constraints", "Multiple Alternative Constraints", "Constraint
 -- Modifier Characters", "Machine Constraints" for x86, "Flag Output Operands"). What no letter here says has no meaning.
-use Rattle.std.specs.Prelude.{ℕ, zero, suc, ◌+◌, ◌-◌, ◌*◌, ◌==◌, ◌&&◌, ◌||◌, nat_eq, nat_lt, List, [], ◌∷◌, ◌++◌, map, length, take, drop, fold, position, Bool, true, false, Option, None, Some, option_map, slice_get, slice_index, codes, if◌then◌else◌}
+use Rattle.std.specs.Prelude.{ℕ, zero, suc, ◌+◌, ◌-◌, ◌*◌, ◌==◌, ◌||◌, nat_eq, nat_lt, List, [], ◌∷◌, ◌++◌, map, length, take, drop, fold, position, Bool, true, false, Option, None, Some, option_map, slice_index, codes, if◌then◌else◌}
 use Rattle.std.specs.List.{flat_map, prefix_len, slice_split}
 use Rattle.std.specs.Char.{is_ascii_digit}
 use Rattle.std.specs.Cmp.Lexicographic.{pointwise}

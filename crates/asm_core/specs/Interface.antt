@@ -1,12 +1,12 @@
 -- What a statement tells the compiler of its operands and of what it changes (GCC manual, "Extended Asm" and "Constraints"),
 -- in this project's tables. Where it lies outside them its first mark stands in place of that, and where it is malformed the
 -- findings of the rule K2. Marks count by their kind before their place: clobbers, operands, constraints, the template.
-use Rattle.std.specs.Prelude.{ℕ, ◌^◌, ◌==◌, ◌||◌, ◌&&◌, bit_or, ℤ, pos, negsuc, int_lt, List, [], ◌∷◌, ◌++◌, map, fold, find, length, replicate, Bool, true, false, not, is_some, Option, None, Some, option_map, slice_get, Result, Ok, Err, if◌then◌else◌}
+use Rattle.std.specs.Prelude.{ℕ, ◌^◌, ◌==◌, ◌||◌, bit_or, ℤ, pos, negsuc, int_lt, List, [], ◌∷◌, ◌++◌, map, fold, find, replicate, Bool, true, false, not, is_some, Option, None, Some, option_map, Result, Ok, Err, if◌then◌else◌}
 use Rattle.std.specs.List.{list_any}
 use Rattle.std.specs.Int.{int_min, int_max}
 use Rattle.asm_core.specs.Lists.{optional_at}
 use Rattle.asm_core.specs.Reg.{reg_number, no_regs}
-use Rattle.asm_core.specs.Constraint.{is_signed, names_of, constrained_operands}
+use Rattle.asm_core.specs.Constraint.{names_of, constrained_operands}
 use Rattle.asm_core.specs.Clobber.{is_unknown, is_cc, is_memory, clobbered_registers}
 use Rattle.asm_core.specs.Size.{is_letter_for, is_pair_letter, is_operand_outside, sizes_of}
 use Rattle.asm_core.specs.Malformed.{is_early, is_constraint_outside, malformed_findings, alternative_count}
@@ -15,10 +15,8 @@ use Rattle.asm_core.specs.declared.shape.Kind.{Kind}
 use Rattle.asm_core.specs.declared.reg.RegSet.{RegSet}
 use Rattle.asm_core.specs.declared.mark.Mark.{Mark}
 use Rattle.asm_core.specs.declared.mark.MarkKind.{MarkKind}
-use Rattle.asm_core.specs.declared.piece.Piece.{Piece}
 use Rattle.asm_core.specs.declared.finding.Finding.{Finding}
 use Rattle.asm_core.specs.declared.operand.Operand.{Operand}
-use Rattle.asm_core.specs.declared.statement.Part.{Part}
 use Rattle.asm_core.specs.declared.statement.Parts.{Parts}
 use Rattle.asm_core.specs.declared.statement.Quoted.{Quoted}
 use Rattle.asm_core.specs.declared.interface.AltIface.{AltIface}
@@ -26,7 +24,7 @@ use Rattle.asm_core.specs.declared.interface.OperandIface.{OperandIface}
 use Rattle.asm_core.specs.declared.interface.Interface.{Interface}
 use Rattle.asm_core.specs.declared.interface.IfaceEnd.{IfaceEnd}
 use Rattle.asm_core.specs.declared.constraint.Letter.{Letter}
-use Rattle.asm_core.specs.declared.constraint.Letter.TheVariants.{One, Pair, ByteRegister, AnyRegister, Memory, Number, WordShift, LongShift, SignedByte, AddressShift, UnsignedByte, General}
+use Rattle.asm_core.specs.declared.constraint.Letter.TheVariants.{One, ByteRegister, AnyRegister, Number, WordShift, LongShift, SignedByte, AddressShift, UnsignedByte, General}
 use Rattle.asm_core.specs.declared.constraint.Symbol.{Symbol}
 use Rattle.asm_core.specs.declared.constraint.Symbol.TheVariants as symbols
 use Rattle.asm_core.specs.declared.constraint.ConstrainedOperand.{ConstrainedOperand}

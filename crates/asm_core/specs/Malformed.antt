@@ -1,6 +1,6 @@
 -- Constraints that lie outside this project's tables, and the rule K2: a malformed interface. Both are this project's own;
 -- gcc refuses most of what K2 names.
-use Rattle.std.specs.Prelude.{ℕ, ◌+◌, ◌==◌, ◌&&◌, ◌||◌, nat_lt, List, [], ◌∷◌, ◌++◌, map, filter, find, take, length, count_by, Bool, true, false, not, is_some, is_none, Option, None, Some, option_map, slice_get, if◌then◌else◌}
+use Rattle.std.specs.Prelude.{ℕ, ◌==◌, ◌&&◌, ◌||◌, nat_lt, List, [], ◌∷◌, ◌++◌, map, filter, find, take, length, count_by, Bool, true, false, not, is_some, is_none, Option, None, Some, slice_get}
 use Rattle.std.specs.List.{list_any, list_all}
 use Rattle.asm_core.specs.Reg.{reg_number}
 use Rattle.asm_core.specs.Lists.{optional_at}
@@ -12,7 +12,6 @@ use Rattle.asm_core.specs.declared.finding.Cell.{Cell}
 use Rattle.asm_core.specs.declared.finding.Finding.{Finding}
 use Rattle.asm_core.specs.declared.interface.Role.{Role}
 use Rattle.asm_core.specs.declared.piece.Piece.{Piece}
-use Rattle.asm_core.specs.declared.constraint.Letter.{Letter}
 use Rattle.asm_core.specs.declared.constraint.Letter.TheVariants.{One}
 use Rattle.asm_core.specs.declared.constraint.Symbol.{Symbol}
 use Rattle.asm_core.specs.declared.constraint.Symbol.TheVariants as symbols

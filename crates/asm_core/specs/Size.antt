@@ -1,6 +1,6 @@
 -- The size of an operand, and when an operand lies outside this project's tables. The kinds and sizes are those of the GCC
 -- manual ("Simple Constraints", "Machine Constraints" for x86); what is left out is this project's own choice.
-use Rattle.std.specs.Prelude.{ℕ, ◌+◌, ◌==◌, ◌&&◌, ◌||◌, nat_lt, List, [], ◌∷◌, map, length, Bool, true, false, not, is_some, is_none, Option, None, Some, option_map, slice_get, if◌then◌else◌}
+use Rattle.std.specs.Prelude.{ℕ, ◌==◌, ◌&&◌, ◌||◌, nat_lt, List, [], map, Bool, true, false, not, is_some, Option, None, Some, slice_get, if◌then◌else◌}
 use Rattle.std.specs.List.{list_any, enumerate_from}
 use Rattle.asm_core.specs.Lists.{optional_at}
 use Rattle.asm_core.specs.Constraint.{all_symbols}

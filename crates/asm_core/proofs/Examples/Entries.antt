@@ -1,5 +1,5 @@
 -- A state in which `"=r"(y):"r"(x)` may begin, with both operands in eax and no memory.
-use Rattle.std.proofs.Common.{◌≡◌, inl, ℕ, zero, suc, ◌<◌, nat_lt, pos, List, [], ◌∷◌, replicate, All, true, None, slice_index_or, codes, refl, sym, ◌∙◌, arith}
+use Rattle.std.proofs.Common.{◌≡◌, inl, ℕ, zero, suc, ◌<◌, nat_lt, pos, List, replicate, All, true, slice_index_or, refl, sym, ◌∙◌, arith}
 use Rattle.std.specs.List.{list_all}
 use Rattle.std.proofs.lemmas.Bool.{ltb-true}
 use Rattle.std.proofs.lemmas.List.Sums.{AllPass-from_list_all}

@@ -1,5 +1,5 @@
 -- Interfaces of statements, worked out by hand from the rules.
-use Rattle.std.proofs.Common.{◌≡◌, ℕ, ◌+◌, ◌*◌, ℤ, pos, negsuc, List, [], ◌∷◌, ◌++◌, map, length, Bool, true, false, codes, Option, None, Some, Result, Ok, Err, refl}
+use Rattle.std.proofs.Common.{◌≡◌, ℕ, ◌+◌, ◌*◌, ℤ, pos, negsuc, List, [], ◌∷◌, map, length, true, false, codes, Option, None, Some, Result, Ok, Err, refl}
 use Rattle.asm_core.specs.Reg.{no_regs}
 use Rattle.asm_core.specs.Interface.{interface_of, first_clobber_mark, first_operand_mark, first_constraint_mark, made_of, operand_of, alternative_of, flag_alternative, tie_of, registers_of, numbers_of, range_of}
 use Rattle.asm_core.specs.Constraint.{constrained_operands, constrained_from, constrained_operand, alternatives_in, symbols_from, symbol_at, byte_symbol, letter_of, output_numbered, output_named, flag_of, flag_spelt}
@@ -9,9 +9,7 @@ use Rattle.asm_core.specs.Malformed.{is_constraint_outside, malformed_findings, 
 use Rattle.asm_core.specs.TemplateForms.{forms_from}
 use Rattle.asm_core.specs.Pieces.{first_outside}
 use Rattle.asm_core.proofs.Examples.Shapes.{any_register}
-use Rattle.asm_core.specs.declared.reg.RegSet.{RegSet}
 use Rattle.asm_core.specs.declared.cond.Cond.{Cond}
-use Rattle.asm_core.specs.declared.mark.Mark.{Mark}
 use Rattle.asm_core.specs.declared.mark.MarkKind.{MarkKind}
 use Rattle.asm_core.specs.declared.finding.Rule.{Rule}
 use Rattle.asm_core.specs.declared.finding.Cell.{Cell}
