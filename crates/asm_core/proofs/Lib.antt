@@ -1,4 +1,5 @@
 mod Examples
+pub mod CompanyLaws
 pub mod FactLaws
 pub mod FlagLaws
 pub mod Keeping

@@ -37,7 +37,7 @@ abbrev is_zero_count : Option Arg → Bool
 is_zero_count (Some (Arg.Number n)) = modulo n 5 == 0
 is_zero_count arg = false
 
-abbrev same_place : Place → Place → Bool
+abbrev pub same_place : Place → Place → Bool
 same_place (Place.Reg r) (Place.Reg q) = reg_number r == reg_number q
 same_place (Place.Operand j) (Place.Operand k) = j == k
 same_place p q = false
