@@ -1,6 +1,7 @@
 -- The definitions on worked examples. Expected values are worked out by hand from the instruction's description.
 mod Bytes
 mod Changing
+mod Companies
 mod Entries
 mod Interfaces
 mod Machines

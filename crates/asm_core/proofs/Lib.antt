@@ -1,5 +1,6 @@
 mod Examples
 pub mod BytesRead
+pub mod CompanyLaws
 pub mod FactLaws
 pub mod FlagLaws
 pub mod Keeping

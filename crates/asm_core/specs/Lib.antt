@@ -1,5 +1,6 @@
 pub mod Clobber
 pub mod Comments
+pub mod Company
 pub mod Cond
 pub mod Constraint
 pub mod Entries

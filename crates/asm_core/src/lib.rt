@@ -1,6 +1,7 @@
 //! The types that the crates of asmck share, and the definitions that more than one of them cites.
 #![tactic(auto)]
 
+mod company;
 mod cond;
 mod constraint;
 mod duplicate;
@@ -28,6 +29,7 @@ mod statement;
 mod sym;
 mod template_form;
 
+pub use company::{Held, Places};
 pub use cond::Cond;
 pub use constraint::{ConstrainedOperand, Letter, Symbol};
 pub use duplicate::{Duplicate, duplicate_items};
