@@ -8,6 +8,7 @@ pub mod CutKept
 pub mod HolesNamed
 pub mod Law
 pub mod LinesPlaced
+pub mod NamesThere
 pub mod OperandsPlaced
 pub mod OperandsBack
 pub mod PiecesApart
