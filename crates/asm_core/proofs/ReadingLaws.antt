@@ -11,6 +11,7 @@ pub mod LinesPlaced
 pub mod NamesThere
 pub mod OperandsPlaced
 pub mod OperandsBack
+pub mod ReadExactly
 pub mod PiecesApart
 pub mod ReadBack
 pub mod Runs

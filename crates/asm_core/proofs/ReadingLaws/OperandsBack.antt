@@ -340,7 +340,7 @@ module _ (i : Interface) (s : Shape) where
     by_alternative None f = own_untied (root_is k o None there f) None f (λ alt e. cc)
     by_alternative (Some alt) f = by_tie alt f alt.tied refl
 
-    root_untied : ra.tied ≡ None
+    pub root_untied : ra.tied ≡ None
     root_untied = by_alternative (slice_get o.alts s.alternative) refl
 
   -- the facts of an operand hold where it may be
