@@ -2,13 +2,13 @@
 use Rattle.std.proofs.Common.{◌≡◌, ◌↔◌, ℕ, ◌<◌, nat_lt, List, [], ◌∷◌, length, map, Bool, true, false, cond, IsTrue, Option, None, Some, is_some, Ok, Err, refl, ap, sym, subst, ◌∙◌, slice_get, arith}
 use Rattle.std.proofs.lemmas.Option.{slice_get-map}
 use Rattle.std.specs.Option.{option_map}
-use Rattle.asm_core.specs.Lists.{flattened}
+use Rattle.asm_core.specs.Lists.{optional_at}
 use Rattle.asm_core.specs.Comments.{uncommented}
 use Rattle.asm_core.specs.WellFormed.{IsInterface}
 use Rattle.asm_core.specs.Pieces.{piece_code, ArePieces}
 use Rattle.asm_core.specs.Reading.Cut.{Raw, raws_of, labels_from, instruction_count}
 use Rattle.asm_core.specs.Reading.Facts.{facts_of, atom_of}
-use Rattle.asm_core.specs.Reading.Line.{goal_of, Reading, line_of, line_read, place_from, readings_of, template_raws, inst_of_reading, lines_with, lines_under}
+use Rattle.asm_core.specs.Reading.Line.{goal_of, Reading, line_of, line_read, place_from, readings_from, readings_of, template_raws, inst_of_reading, lines_with, lines_under}
 use Rattle.asm_core.specs.Reading.Text.{text_inst}
 use Rattle.asm_core.specs.Reading.Placed.{is_apart, inst_under}
 use Rattle.asm_core.specs.Reading.UnderShape.{IsLettered, body_text, body_reading, HasReading, IsReading, statements_of, instructions_of, IsReadAs, ReadsExactly}
@@ -70,3 +70,51 @@ module _ (rows : List NameRow) (i : Interface) (s : Shape) (is : IsInterface i) 
 
       placed : (p : _) (unique : ℕ) (text : _) → IsLettered i s p → body_text i p unique body ≡ Ok text → text_inst count (body_reading rows i s goal before text) ≡ option_map (inst_under p) (inst_of_reading count line)
       placed p unique text lettered e = rw (body_read rows i s is goal before place p unique text body lettered apart e) (reading-placed p count line)
+
+  module _ (ps : List Piece) (apart : is_apart (map piece_code (uncommented piece_code ps)) ≡ true) where
+    abbrev raws : List (Raw Piece)
+    raws = statements_of ps
+
+    abbrev elements : List (Raw Atom)
+    elements = map (raw_map (atom_of (facts_of i s))) raws
+
+    inst_of_raw : (n : ℕ) → Raw Piece → Option Sym
+    inst_of_raw n raw = inst_of_reading (instruction_count raws) (reading_as rows (labels_from 0 raws) n (raw_map (atom_of (facts_of i s)) raw))
+
+    element_at : (n : ℕ) (raw : Raw Piece) → slice_get (instructions_of raws) n ≡ Some raw → slice_get (instructions_of elements) n ≡ Some (raw_map (atom_of (facts_of i s)) raw)
+    element_at n raw e = rw (instructions-kept (atom_of (facts_of i s)) raws, slice_get-map (raw_map (atom_of (facts_of i s))) (instructions_of raws) n, e) refl
+
+    insts_at : (n : ℕ) (raw : Raw Piece) → slice_get (instructions_of raws) n ≡ Some raw → optional_at (map (inst_of_reading (instruction_count elements)) (readings_of rows elements)) n ≡ inst_of_raw n raw
+    unfolding readings_of inst_of_raw
+    insts_at n raw e =
+        rw (
+          slice_get-map (inst_of_reading (instruction_count elements)) (readings_from rows (labels_from 0 elements) 0 elements) n,
+          reading_at rows (labels_from 0 elements) 0 n n elements (raw_map (atom_of (facts_of i s)) raw) (element_at n raw e) (omega arith),
+          labels_from-kept (atom_of (facts_of i s)) 0 raws,
+          instruction_count-kept (atom_of (facts_of i s)) raws,
+        ) refl
+
+    read_as : (n : ℕ) (raw : Raw Piece) → slice_get (instructions_of raws) n ≡ Some raw → IsReadAs rows i s raws n raw (inst_of_raw n raw)
+    unfolding inst_of_raw
+    read_as n (Raw.Named name) e = no_label raws n name e
+    read_as n (Raw.Dead from) e = refl
+    read_as n (Raw.Live before from body) e =
+        body_exact (labels_from 0 raws) n (instruction_count raws) (place_from (atoms from)) before body (body_apart piece_code (uncommented piece_code ps) n before from body apart e)
+
+    insts_are : (b : Bool) (lines : Lines) → cond b (Err LinesEnd.TooMany) (Ok (lines_with elements (readings_of rows elements))) ≡ Ok lines → map (inst_of_reading (instruction_count elements)) (readings_of rows elements) ≡ lines.insts
+    insts_are true lines e = cc
+    insts_are false lines e = let same : lines_with elements (readings_of rows elements) ≡ lines = cc in ap (λ (l : Lines). l.insts) same
+
+    reads_exactly : (lines : Lines) → lines_under rows i s ps ≡ Ok lines → ReadsExactly rows i s ps lines
+    reads_exactly lines read = record {
+      each = λ n raw e. (
+        let told : cond (nat_lt 512 (instruction_count elements)) (Err LinesEnd.TooMany) (Ok (lines_with elements (readings_of rows elements))) ≡ Ok lines = rw (statements-kept i s ps) at read in
+        let insts = insts_are (nat_lt 512 (instruction_count elements)) lines told in
+        subst (IsReadAs rows i s raws n raw) (sym (insts_at n raw e) ∙ ap (λ l. optional_at l n) insts) (read_as n raw e)
+      );
+    }
+
+-- The lines of a template's pieces under a shape have an instruction exactly where the template has one with a reading.
+pub pieces_read_exactly : (rows : List NameRow) (i : Interface) (s : Shape) (ps : List Piece) (lines : Lines) → IsInterface i → ArePieces (length i.operands) ps → lines_under rows i s ps ≡ Ok lines
+    → ReadsExactly rows i s ps lines
+pieces_read_exactly rows i s ps lines is pieces read = reads_exactly rows i s is ps (are_apart (length i.operands) ps pieces) lines read
