@@ -2,7 +2,7 @@
 use Rattle.std.proofs.Common.{◌≡◌, ℕ, zero, suc, ◌+◌, ◌==◌, ◌&&◌, nat_lt, not, List, [], ◌∷◌, ◌++◌, length, map, take, drop, Bool, true, false, cond, Option, None, Some, refl, slice_index, slice_get}
 use Rattle.std.proofs.lemmas.List.{drop-map}
 use Rattle.std.specs.List.{slice_split, onto_first, flat_map, list_any}
-use Rattle.asm_core.specs.Reading.Cut.{ends_statement, begun, word_len, is_label, is_unique_label, same_name, prefix_named, Item, item_at, items_from, items_of, Raw, Waiting, none_waits, first_or, raws_from, raws_of}
+use Rattle.asm_core.specs.Reading.Cut.{ends_statement, begun, word_len, is_label, is_unique_label, same_name, prefix_named, Item, item_at, items_from, items_of, Raw, Waiting, none_waits, raws_from, raws_of}
 use Rattle.asm_core.specs.Reading.Placed.{is_apart}
 use Rattle.asm_core.specs.Reading.UnderShape.{instructions_of}
 use Rattle.asm_core.specs.declared.names.Prefix.{Prefix}

@@ -1,23 +1,21 @@
 -- The text of an instruction's body under a placement by letters says what the body says, placed.
-use Rattle.std.proofs.Common.{◌≡◌, ℕ, zero, suc, ◌+◌, List, [], ◌∷◌, map, true, false, IsTrue, is_some, Option, None, Some, Ok, refl, ap, sym, subst, ◌∙◌, slice_get, arith}
-use Rattle.std.proofs.lemmas.Option.{slice_get-map}
-use Rattle.std.specs.Option.{option_map}
+use Rattle.std.proofs.Common.{◌≡◌, ℕ, zero, suc, ◌+◌, List, [], ◌∷◌, map, true, false, is_some, Option, Some, Ok, refl, slice_get, arith}
 use Rattle.asm_core.specs.WellFormed.{IsInterface}
 use Rattle.asm_core.specs.Pieces.{piece_code}
 use Rattle.asm_core.specs.Expansion.{piece_text, expansion_with}
-use Rattle.asm_core.specs.Reading.Cut.{Raw, raws_of}
+use Rattle.asm_core.specs.Reading.Cut.{Raw}
 use Rattle.asm_core.specs.Reading.Operands.{atom_code}
 use Rattle.asm_core.specs.Reading.Facts.{facts_of, atom_of}
-use Rattle.asm_core.specs.Reading.Line.{Defined, goal_of, Reading, line_of, line_read, place_from, readings_from, readings_of, template_raws, inst_of_reading}
-use Rattle.asm_core.specs.Reading.Text.{Sign, runs_of, atom_of_run, text_inst}
-use Rattle.asm_core.specs.Reading.Placed.{is_apart, inst_under}
+use Rattle.asm_core.specs.Reading.Line.{Defined, goal_of, Reading, line_of, line_read, place_from, readings_from, template_raws}
+use Rattle.asm_core.specs.Reading.Text.{Sign, runs_of, atom_of_run}
+use Rattle.asm_core.specs.Reading.Placed.{is_apart}
 use Rattle.asm_core.specs.Reading.UnderShape.{IsLettered, body_text, body_reading, statements_of, instructions_of}
 use Rattle.asm_core.proofs.ReadingLaws.CommentsLeft.{signs_of}
-use Rattle.asm_core.proofs.ReadingLaws.CutKept.{KeepsCodes, raw_map, raws_of-kept}
+use Rattle.asm_core.proofs.ReadingLaws.CutKept.{raw_map, raws_of-kept}
 use Rattle.asm_core.proofs.ReadingLaws.Law.{give_text, atoms-named}
-use Rattle.asm_core.proofs.ReadingLaws.LinesPlaced.{placed_reading, line_of-placed, reading-placed}
+use Rattle.asm_core.proofs.ReadingLaws.LinesPlaced.{placed_reading, line_of-placed}
 use Rattle.asm_core.proofs.ReadingLaws.OperandsPlaced.{placed_all}
-use Rattle.asm_core.proofs.ReadingLaws.Runs.{run_of, runs-signs, AreNamed, IsThat, Where, piece-that, onto-that, that_is, piece-named, onto-named, where_ok}
+use Rattle.asm_core.proofs.ReadingLaws.Runs.{runs-signs, AreNamed, IsThat, Where, piece-that, onto-that, that_is, piece-named, onto-named, where_ok}
 use Rattle.asm_core.specs.declared.names.Prefix.{Prefix}
 use Rattle.asm_core.specs.declared.names.NameRow.{NameRow}
 use Rattle.asm_core.specs.declared.piece.Piece.{Piece}

@@ -1,5 +1,5 @@
 -- An instruction that is read has no hole without a name.
-use Rattle.std.proofs.Common.{◌≡◌, ℕ, zero, suc, ◌+◌, ◌-◌, ◌==◌, ◌||◌, ◌&&◌, ◌≤◌, nat_lt, not, ℤ, pos, negsuc, List, [], ◌∷◌, length, map, take, drop, Bool, true, false, cond, Option, None, Some, IsTrue, is_some, refl, sym, ap, ◌∙◌, slice_index, arith}
+use Rattle.std.proofs.Common.{◌≡◌, ℕ, zero, suc, ◌+◌, ◌==◌, ◌||◌, ◌&&◌, ◌≤◌, nat_lt, not, ℤ, pos, List, [], ◌∷◌, length, map, take, drop, Bool, true, false, cond, Option, None, Some, IsTrue, is_some, refl, sym, ◌∙◌, slice_index, arith}
 use Rattle.std.proofs.Math.Dec.{eqb-suc-zero}
 use Rattle.std.proofs.lemmas.Bool.{eqb-true, ltb-false}
 use Rattle.std.specs.Option.{option_map}
@@ -8,7 +8,7 @@ use Rattle.asm_core.specs.Reading.Cut.{is_blank, is_word, begun}
 use Rattle.asm_core.specs.Reading.Written.{register_named, number_of}
 use Rattle.asm_core.specs.Reading.Operands.{atom_code, content_len, ended, trimmed, hole_of, number_disp, disp_or, disp_in, whole_register, register_place, place_or, place_in, scale_of, scale_or, scale_in, before, address, indexed, base_in, index_in, between, enclosed, front_disp, address_at, address_of, register_operand, label_or, written_operand, hole_operand, operand_of, comma_outside, operands_in, operands_of, all_some}
 use Rattle.asm_core.specs.Reading.Line.{Reading, line_of_operands, line_at, line_of, line_read, name_len}
-use Rattle.asm_core.proofs.ReadingLaws.WrittenCodes.{no_hole, cond_some, number_codes, register_codes, percent_codes, NameLabels}
+use Rattle.asm_core.proofs.ReadingLaws.WrittenCodes.{no_hole, cond_some, number_codes, percent_codes, NameLabels}
 use Rattle.asm_core.specs.declared.reg.Reg.{Reg}
 use Rattle.asm_core.specs.declared.reg.Slice.{Slice}
 use Rattle.asm_core.specs.declared.sym.Place.{Place}
@@ -244,7 +244,7 @@ index_named xs index e =
     let n = before 44 (codes_of xs) in
     cond_some (nat_lt n (length xs)) (indexed (place_in (trimmed (take n xs))) (scale_in (trimmed (drop (n + 1) xs)))) (indexed (place_in (trimmed xs)) (Some 1)) index (are_named xs ≡ true)
     (λ h f. let parts = indexed_parts _ _ index f in
-        named_cut 44 refl xs (named_trimmed (take n xs) (place_named (trimmed (take n xs)) parts.0.0 parts.0.1)) (named_trimmed (drop (n + 1) xs) (scale_named (trimmed (drop (n + 1) xs)) parts.1.0 parts.1.1)))
+    named_cut 44 refl xs (named_trimmed (take n xs) (place_named (trimmed (take n xs)) parts.0.0 parts.0.1)) (named_trimmed (drop (n + 1) xs) (scale_named (trimmed (drop (n + 1) xs)) parts.1.0 parts.1.1)))
     (λ h f. let parts = indexed_parts (place_in (trimmed xs)) (Some 1) index f in named_trimmed xs (place_named (trimmed xs) parts.0.0 parts.0.1)) e
 
 between_named : (d : Option Disp) (xs : List Atom) (o : LineOperand) → between d xs (before 44 (codes_of xs)) ≡ Some o → IsThere d × (are_named xs ≡ true)
@@ -254,10 +254,10 @@ between_named d xs o e =
     let rest = drop (n + 1) xs in
     cond_some (nat_lt n (length xs)) (address d (base_in (trimmed (take n xs))) (index_in rest (before 44 (codes_of rest)))) (address d (option_map Some (place_in (trimmed xs))) (Some None)) o (IsThere d × (are_named xs ≡ true))
     (λ h f. let parts = address_parts d _ _ o f in
-        (parts.0, named_cut 44 refl xs (named_trimmed (take n xs) (base_named (trimmed (take n xs)) parts.1.0.0 parts.1.0.1)) (index_named rest parts.1.1.0 parts.1.1.1)))
+    (parts.0, named_cut 44 refl xs (named_trimmed (take n xs) (base_named (trimmed (take n xs)) parts.1.0.0 parts.1.0.1)) (index_named rest parts.1.1.0 parts.1.1.1)))
     (λ h f. let parts = address_parts d (option_map Some (place_in (trimmed xs))) (Some None) o f in
-        let place = mapped Some (place_in (trimmed xs)) parts.1.0 in
-        (parts.0, named_trimmed xs (place_named (trimmed xs) place.0 place.1))) e
+    let place = mapped Some (place_in (trimmed xs)) parts.1.0 in
+    (parts.0, named_trimmed xs (place_named (trimmed xs) place.0 place.1))) e
 
 enclosed_named : (d : Option Disp) (xs : List Atom) (n : ℕ) (o : LineOperand) → length xs ≤ n → enclosed d xs n ≡ Some o → IsThere d × (are_named xs ≡ true)
 unfolding enclosed
@@ -281,7 +281,7 @@ address_named xs o e =
     let rest = drop (n + 1) xs in
     cond_some (nat_lt n (length xs)) (enclosed (front_disp (ended (take n xs))) rest (length rest)) (address (disp_in xs) (Some None) (Some None)) o (are_named xs ≡ true)
     (λ h f. let b = enclosed_named (front_disp (ended (take n xs))) rest (length rest) o (omega arith) f in
-        named_cut 40 refl xs (named_ended (take n xs) (front_named (ended (take n xs)) b.0.0 b.0.1)) b.1)
+    named_cut 40 refl xs (named_ended (take n xs) (front_named (ended (take n xs)) b.0.0 b.0.1)) b.1)
     (λ h f. let parts = address_parts (disp_in xs) (Some None) (Some None) o f in disp_named xs parts.0.0 parts.0.1) e
 
 register_some : (r : Option (Reg × Slice)) (o : LineOperand) → register_operand r ≡ Some o → IsThere r
@@ -300,7 +300,7 @@ module _ (goal : List ℕ → Option (Option ℕ)) (labels : NameLabels goal) wh
       cond_some (slice_index text 0 == 36) (option_map LineOperand.Immediate (disp_in (drop 1 xs))) _ o (are_named xs ≡ true)
       (λ h f. let d = mapped LineOperand.Immediate (disp_in (drop 1 xs)) (o, f) in named_after 35 xs h (disp_named (drop 1 xs) d.0 d.1))
       (λ h f. cond_some (slice_index text 0 == 37) (register_operand (register_named (drop 1 text))) (label_or (goal text) (address_of xs)) o (are_named xs ≡ true)
-          (λ k g. let r = register_some (register_named (drop 1 text)) o g in named_codes xs (percent_codes text r.0 k r.1)) (λ k g. label_named xs o (goal text) refl g) f) e
+      (λ k g. let r = register_some (register_named (drop 1 text)) o g in named_codes xs (percent_codes text r.0 k r.1)) (λ k g. label_named xs o (goal text) refl g) f) e
 
   operand_named : (xs : List Atom) (o : LineOperand) → operand_of goal xs ≡ Some o → are_named xs ≡ true
   unfolding operand_of

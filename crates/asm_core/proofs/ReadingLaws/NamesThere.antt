@@ -1,28 +1,27 @@
 -- Where no hole of a body is without a name, some placement by letters names each operand of it.
-use Rattle.std.proofs.Common.{◌≡◌, ℕ, zero, suc, ◌+◌, ◌/◌, ◌%◌, ◌==◌, ◌&&◌, ◌||◌, ◌<◌, ◌≤◌, ◌^◌, not, ℤ, pos, List, [], ◌∷◌, ◌++◌, length, map, Bool, true, false, cond, IsTrue, Option, None, Some, Result, Ok, Err, refl, ap, sym, subst, ◌∙◌, slice_get, eq-eqb, arith}
-use Rattle.std.proofs.lemmas.Bool.{eqb-true, ne_eqb}
+use Rattle.std.proofs.Common.{◌≡◌, ℕ, zero, suc, ◌/◌, ◌%◌, ◌==◌, ◌&&◌, ◌<◌, ◌≤◌, ◌^◌, not, pos, List, [], ◌∷◌, ◌++◌, map, Bool, true, false, cond, Option, None, Some, Result, Ok, Err, refl, ap, sym, subst, ◌∙◌, slice_get, eq-eqb, arith}
+use Rattle.std.proofs.lemmas.Bool.{eqb-true}
 use Rattle.std.proofs.lemmas.Bool.Decides.{nat_tests}
 use Rattle.std.proofs.lemmas.Option.{slice_get_within}
 use Rattle.std.proofs.lemmas.List.FromFn.{get_or-map-range_with_len}
 use Rattle.std.specs.List.{range_with_len}
-use Rattle.std.specs.Option.{option_map, option_and_then}
+use Rattle.std.specs.Option.{option_and_then}
 use Rattle.asm_core.specs.Reg.{IsIn}
 use Rattle.asm_core.specs.Placement.{spot_of, HasOperand, tie_root}
 use Rattle.asm_core.specs.WellFormed.{IsInterface}
-use Rattle.asm_core.specs.Expansion.{name_of, register_text, number_text, memory_text, printed, operand_text, with_origin, hole_text, piece_text, onto_text, expansion_with}
+use Rattle.asm_core.specs.Expansion.{name_of, register_text, printed, operand_text, with_origin, hole_text, piece_text, expansion_with}
 use Rattle.asm_core.specs.Reading.Facts.{allows_byte_names, fixed_register, facts_from, alternative_at, facts_with, facts_of, slice_of, is_byte_slice, register_leaf, number_leaf, memory_leaf, leaf_by, leaf_of, atom_of}
 use Rattle.asm_core.specs.Reading.Text.{Sign}
 use Rattle.asm_core.specs.Reading.UnderShape.{LettersFit, IsLettered, body_text, HasNames}
 use Rattle.asm_core.proofs.ReadingLaws.HolesNamed.{is_nameless, is_named, are_named}
 use Rattle.asm_core.proofs.ReadingLaws.OperandsBack.{root_is, root_untied}
 use Rattle.asm_core.specs.declared.reg.Reg.{Reg}
-use Rattle.asm_core.specs.declared.reg.Reg.TheVariants.{Eax, Ebx, Ecx, Edx, Esi, Edi, Ebp}
+use Rattle.asm_core.specs.declared.reg.Reg.TheVariants.{Eax, Ebx, Ecx, Edx}
 use Rattle.asm_core.specs.declared.reg.RegSet.{RegSet}
 use Rattle.asm_core.specs.declared.reg.Slice.{Slice}
 use Rattle.asm_core.specs.declared.reg.Slice.TheVariants.{Low8, High8, Low16, All}
 use Rattle.asm_core.specs.declared.piece.Modifier.{Modifier}
 use Rattle.asm_core.specs.declared.piece.Piece.{Piece}
-use Rattle.asm_core.specs.declared.placement.Form.{Form}
 use Rattle.asm_core.specs.declared.placement.Spot.{Spot}
 use Rattle.asm_core.specs.declared.placement.Placement.{Placement}
 use Rattle.asm_core.specs.declared.shape.Kind.{Kind}

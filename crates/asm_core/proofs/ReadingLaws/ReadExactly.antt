@@ -1,14 +1,14 @@
 -- The lines under a shape have an instruction exactly where the template has one with a reading.
-use Rattle.std.proofs.Common.{◌≡◌, ◌↔◌, ℕ, ◌<◌, nat_lt, List, [], ◌∷◌, length, map, Bool, true, false, cond, IsTrue, Option, None, Some, is_some, Ok, Err, refl, ap, sym, subst, ◌∙◌, slice_get, arith}
+use Rattle.std.proofs.Common.{◌≡◌, ◌↔◌, ℕ, nat_lt, List, length, map, Bool, true, false, cond, IsTrue, Option, Some, is_some, Ok, Err, refl, ap, sym, subst, ◌∙◌, slice_get, arith}
 use Rattle.std.proofs.lemmas.Option.{slice_get-map}
 use Rattle.std.specs.Option.{option_map}
 use Rattle.asm_core.specs.Lists.{optional_at}
 use Rattle.asm_core.specs.Comments.{uncommented}
 use Rattle.asm_core.specs.WellFormed.{IsInterface}
 use Rattle.asm_core.specs.Pieces.{piece_code, ArePieces}
-use Rattle.asm_core.specs.Reading.Cut.{Raw, raws_of, labels_from, instruction_count}
+use Rattle.asm_core.specs.Reading.Cut.{Raw, labels_from, instruction_count}
 use Rattle.asm_core.specs.Reading.Facts.{facts_of, atom_of}
-use Rattle.asm_core.specs.Reading.Line.{goal_of, Reading, line_of, line_read, place_from, readings_from, readings_of, template_raws, inst_of_reading, lines_with, lines_under}
+use Rattle.asm_core.specs.Reading.Line.{goal_of, Reading, line_of, line_read, place_from, readings_from, readings_of, inst_of_reading, lines_with, lines_under}
 use Rattle.asm_core.specs.Reading.Text.{text_inst}
 use Rattle.asm_core.specs.Reading.Placed.{is_apart, inst_under}
 use Rattle.asm_core.specs.Reading.UnderShape.{IsLettered, body_text, body_reading, HasReading, IsReading, statements_of, instructions_of, IsReadAs, ReadsExactly}
@@ -16,7 +16,7 @@ use Rattle.asm_core.proofs.ReadingLaws.BodiesApart.{body_apart}
 use Rattle.asm_core.proofs.ReadingLaws.BodiesRead.{body_read, still_read, reading_as, reading_at, instructions-kept, statements-kept, no_label}
 use Rattle.asm_core.proofs.ReadingLaws.CutKept.{raw_map, labels_from-kept, instruction_count-kept}
 use Rattle.asm_core.proofs.ReadingLaws.HolesNamed.{line_read_named}
-use Rattle.asm_core.proofs.ReadingLaws.LinesPlaced.{placed_reading, reading-placed}
+use Rattle.asm_core.proofs.ReadingLaws.LinesPlaced.{reading-placed}
 use Rattle.asm_core.proofs.ReadingLaws.NamesThere.{names_there}
 use Rattle.asm_core.proofs.ReadingLaws.PiecesApart.{are_apart}
 use Rattle.asm_core.proofs.ReadingLaws.WrittenCodes.{goal_codes}
@@ -108,10 +108,10 @@ module _ (rows : List NameRow) (i : Interface) (s : Shape) (is : IsInterface i) 
     reads_exactly : (lines : Lines) → lines_under rows i s ps ≡ Ok lines → ReadsExactly rows i s ps lines
     reads_exactly lines read = record {
       each = λ n raw e. (
-        let told : cond (nat_lt 512 (instruction_count elements)) (Err LinesEnd.TooMany) (Ok (lines_with elements (readings_of rows elements))) ≡ Ok lines = rw (statements-kept i s ps) at read in
-        let insts = insts_are (nat_lt 512 (instruction_count elements)) lines told in
-        subst (IsReadAs rows i s raws n raw) (sym (insts_at n raw e) ∙ ap (λ l. optional_at l n) insts) (read_as n raw e)
-      );
+          let told : cond (nat_lt 512 (instruction_count elements)) (Err LinesEnd.TooMany) (Ok (lines_with elements (readings_of rows elements))) ≡ Ok lines = rw (statements-kept i s ps) at read in
+          let insts = insts_are (nat_lt 512 (instruction_count elements)) lines told in
+          subst (IsReadAs rows i s raws n raw) (sym (insts_at n raw e) ∙ ap (λ l. optional_at l n) insts) (read_as n raw e)
+          );
     }
 
 -- The lines of a template's pieces under a shape have an instruction exactly where the template has one with a reading.

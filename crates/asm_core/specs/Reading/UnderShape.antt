@@ -10,7 +10,7 @@ use Rattle.asm_core.specs.Placement.{spot_of, tie_root, IsForm, IsNumber, HasOpe
 use Rattle.asm_core.specs.Expansion.{expansion_with}
 use Rattle.asm_core.specs.Reading.Cut.{Raw, raws_of, labels_from, instruction_count}
 use Rattle.asm_core.specs.Reading.Facts.{facts_of}
-use Rattle.asm_core.specs.Reading.Line.{Defined, goal_of, Reading, line_of, line_read}
+use Rattle.asm_core.specs.Reading.Line.{goal_of, Reading, line_of, line_read}
 use Rattle.asm_core.specs.Reading.Text.{Sign, runs_of, atom_of_run, text_inst}
 use Rattle.asm_core.specs.Reading.Placed.{inst_under}
 use Rattle.asm_core.specs.declared.names.Prefix.{Prefix}
