@@ -8,8 +8,10 @@ pub mod CutKept
 pub mod HolesNamed
 pub mod Law
 pub mod LinesPlaced
+pub mod NamesThere
 pub mod OperandsPlaced
 pub mod OperandsBack
+pub mod ReadExactly
 pub mod PiecesApart
 pub mod ReadBack
 pub mod Runs

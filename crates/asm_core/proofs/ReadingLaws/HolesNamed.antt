@@ -245,7 +245,7 @@ index_named xs index e =
     let n = before 44 (codes_of xs) in
     cond_some (nat_lt n (length xs)) (indexed (place_in (trimmed (take n xs))) (scale_in (trimmed (drop (n + 1) xs)))) (indexed (place_in (trimmed xs)) (Some 1)) index (are_named xs ≡ true)
     (λ h f. let parts = indexed_parts _ _ index f in
-        named_cut 44 refl xs (named_trimmed (take n xs) (place_named (trimmed (take n xs)) parts.0.0 parts.0.1)) (named_trimmed (drop (n + 1) xs) (scale_named (trimmed (drop (n + 1) xs)) parts.1.0 parts.1.1)))
+    named_cut 44 refl xs (named_trimmed (take n xs) (place_named (trimmed (take n xs)) parts.0.0 parts.0.1)) (named_trimmed (drop (n + 1) xs) (scale_named (trimmed (drop (n + 1) xs)) parts.1.0 parts.1.1)))
     (λ h f. let parts = indexed_parts (place_in (trimmed xs)) (Some 1) index f in named_trimmed xs (place_named (trimmed xs) parts.0.0 parts.0.1)) e
 
 between_named : (d : Option Disp) (xs : List Atom) (o : LineOperand) → between d xs (before 44 (codes_of xs)) ≡ Some o → IsThere d × (are_named xs ≡ true)
@@ -255,10 +255,10 @@ between_named d xs o e =
     let rest = drop (n + 1) xs in
     cond_some (nat_lt n (length xs)) (address d (base_in (trimmed (take n xs))) (index_in rest (before 44 (codes_of rest)))) (address d (option_map Some (place_in (trimmed xs))) (Some None)) o (IsThere d × (are_named xs ≡ true))
     (λ h f. let parts = address_parts d _ _ o f in
-        (parts.0, named_cut 44 refl xs (named_trimmed (take n xs) (base_named (trimmed (take n xs)) parts.1.0.0 parts.1.0.1)) (index_named rest parts.1.1.0 parts.1.1.1)))
+    (parts.0, named_cut 44 refl xs (named_trimmed (take n xs) (base_named (trimmed (take n xs)) parts.1.0.0 parts.1.0.1)) (index_named rest parts.1.1.0 parts.1.1.1)))
     (λ h f. let parts = address_parts d (option_map Some (place_in (trimmed xs))) (Some None) o f in
-        let place = mapped Some (place_in (trimmed xs)) parts.1.0 in
-        (parts.0, named_trimmed xs (place_named (trimmed xs) place.0 place.1))) e
+    let place = mapped Some (place_in (trimmed xs)) parts.1.0 in
+    (parts.0, named_trimmed xs (place_named (trimmed xs) place.0 place.1))) e
 
 enclosed_named : (d : Option Disp) (xs : List Atom) (n : ℕ) (o : LineOperand) → length xs ≤ n → enclosed d xs n ≡ Some o → IsThere d × (are_named xs ≡ true)
 unfolding enclosed
@@ -282,7 +282,7 @@ address_named xs o e =
     let rest = drop (n + 1) xs in
     cond_some (nat_lt n (length xs)) (enclosed (front_disp (ended (take n xs))) rest (length rest)) (address (disp_in xs) (Some None) (Some None)) o (are_named xs ≡ true)
     (λ h f. let b = enclosed_named (front_disp (ended (take n xs))) rest (length rest) o (omega arith) f in
-        named_cut 40 refl xs (named_ended (take n xs) (front_named (ended (take n xs)) b.0.0 b.0.1)) b.1)
+    named_cut 40 refl xs (named_ended (take n xs) (front_named (ended (take n xs)) b.0.0 b.0.1)) b.1)
     (λ h f. let parts = address_parts (disp_in xs) (Some None) (Some None) o f in disp_named xs parts.0.0 parts.0.1) e
 
 register_some : (r : Option (Reg × Slice)) (o : LineOperand) → register_operand r ≡ Some o → IsThere r
@@ -301,7 +301,7 @@ module _ (goal : List ℕ → Option (Option ℕ)) (labels : NameLabels goal) wh
       cond_some (slice_index text 0 == 36) (option_map LineOperand.Immediate (disp_in (drop 1 xs))) _ o (are_named xs ≡ true)
       (λ h f. let d = mapped LineOperand.Immediate (disp_in (drop 1 xs)) (o, f) in named_after 35 xs h (disp_named (drop 1 xs) d.0 d.1))
       (λ h f. cond_some (slice_index text 0 == 37) (register_operand (register_named (drop 1 text))) (label_or (goal text) (address_of xs)) o (are_named xs ≡ true)
-          (λ k g. let r = register_some (register_named (drop 1 text)) o g in named_codes xs (percent_codes text r.0 k r.1)) (λ k g. label_named xs o (goal text) refl g) f) e
+      (λ k g. let r = register_some (register_named (drop 1 text)) o g in named_codes xs (percent_codes text r.0 k r.1)) (λ k g. label_named xs o (goal text) refl g) f) e
 
   operand_named : (xs : List Atom) (o : LineOperand) → operand_of goal xs ≡ Some o → are_named xs ≡ true
   unfolding operand_of

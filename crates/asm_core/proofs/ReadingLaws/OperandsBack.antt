@@ -308,7 +308,7 @@ fits_facts o alt Kind.Number Spot.Pair size root has fits = absurd fits
 fits_facts o alt Kind.Number (Spot.Memory f) size root has fits = absurd fits
 
 module _ (i : Interface) (s : Shape) where
-  root_is : (k : ℕ) (o : OperandIface) (found : Option AltIface) → slice_get i.operands k ≡ Some o → slice_get o.alts s.alternative ≡ found
+  pub root_is : (k : ℕ) (o : OperandIface) (found : Option AltIface) → slice_get i.operands k ≡ Some o → slice_get o.alts s.alternative ≡ found
       → tie_root i s k ≡ elim found [ None ↦ k | Some alt ↦ elim alt.tied [ None ↦ k | Some output ↦ output ] ]
   root_is k o None e f = rw (e, f) refl
   root_is k o (Some alt) e f = rw (e, f) refl
@@ -340,7 +340,7 @@ module _ (i : Interface) (s : Shape) where
     by_alternative None f = own_untied (root_is k o None there f) None f (λ alt e. cc)
     by_alternative (Some alt) f = by_tie alt f alt.tied refl
 
-    root_untied : ra.tied ≡ None
+    pub root_untied : ra.tied ≡ None
     root_untied = by_alternative (slice_get o.alts s.alternative) refl
 
   -- the facts of an operand hold where it may be

@@ -68,10 +68,10 @@ unfolding magnitude_of
 magnitude_codes cs n e =
     cond_some ((slice_index cs 0 == 48) && nat_lt 1 (length cs)) _ (numeral_value 10 cs) n (no_hole cs ≡ true)
     (λ h f. let first = first_true (slice_index cs 0 == 48) _ h in
-        cond_some (slice_index cs 1 == 120) (numeral_value 16 (drop 2 cs)) _ n (no_hole cs ≡ true)
-        (λ k g. two_codes 47 119 cs first k (numeral_codes 16 (drop 2 cs) n refl g))
-        (λ k g. cond_some (slice_index cs 1 == 98) (numeral_value 2 (drop 2 cs)) (numeral_value 8 (drop 1 cs)) n (no_hole cs ≡ true)
-            (λ l r. two_codes 47 97 cs first l (numeral_codes 2 (drop 2 cs) n refl r)) (λ l r. first_code 47 cs first (numeral_codes 8 (drop 1 cs) n refl r)) g) f)
+    cond_some (slice_index cs 1 == 120) (numeral_value 16 (drop 2 cs)) _ n (no_hole cs ≡ true)
+    (λ k g. two_codes 47 119 cs first k (numeral_codes 16 (drop 2 cs) n refl g))
+    (λ k g. cond_some (slice_index cs 1 == 98) (numeral_value 2 (drop 2 cs)) (numeral_value 8 (drop 1 cs)) n (no_hole cs ≡ true)
+    (λ l r. two_codes 47 97 cs first l (numeral_codes 2 (drop 2 cs) n refl r)) (λ l r. first_code 47 cs first (numeral_codes 8 (drop 1 cs) n refl r)) g) f)
     (λ h f. numeral_codes 10 cs n refl f) e
 
 bounded : (cs : List ℕ) (limit n : ℕ) (m : Option ℕ) → magnitude_of cs ≡ m → not_above m limit ≡ Some n → no_hole cs ≡ true
@@ -158,9 +158,9 @@ label_codes labels inst cs to e =
     let last = slice_index cs n in
     cond_some (is_reference (take n cs) && ((last == 98) || (last == 102))) _ _ to (no_hole cs ≡ true)
     (λ h f. let number = first_true (is_number_label (take n cs)) _ (first_true (is_reference (take n cs)) _ h) in
-        let more = both_true (nat_lt 0 (length (take n cs))) _ number in
-        let digits = both_true (nat_le (length (take n cs)) 4) _ more in
-        last_code n cs (omega arith) (digit_codes (take n cs) digits) (ends_reference last (both_true (is_reference (take n cs)) _ h)))
+    let more = both_true (nat_lt 0 (length (take n cs))) _ number in
+    let digits = both_true (nat_le (length (take n cs)) 4) _ more in
+    last_code n cs (omega arith) (digit_codes (take n cs) digits) (ends_reference last (both_true (is_reference (take n cs)) _ h)))
     (λ h f. cond_some (is_unique_label cs) _ None to (no_hole cs ≡ true) (λ k g. unique_label_codes cs k) (λ k g. cc) f) e
 
 pub goal_codes : (labels : List Defined) (inst : ℕ) → NameLabels (goal_of labels inst)

@@ -63,10 +63,10 @@ pub record HasReading (rows : List NameRow) (i : Interface) (s : Shape) (goal : 
   pub some : HasNames i s body
   pub each : (p : Placement) (unique : ℕ) (text : List Sign) → IsLettered i s p → body_text i p unique body ≡ Ok text → IsTrue (is_some (line_read (body_reading rows i s goal before text)))
 
--- The instruction is there exactly where its body has a reading, and it says what each text of the body says; `count` is the
--- number that a label has that isn't there.
+-- Where the shape has a placement by letters at all, as each live one has, the instruction is there exactly where its body has
+-- a reading; and it says what each text of the body says. `count` is the number that a label has that isn't there.
 pub record IsReading (rows : List NameRow) (i : Interface) (s : Shape) (count : ℕ) (goal : List ℕ → Option (Option ℕ)) (before : List Prefix) (body : List Piece) (inst : Option Sym) : Type 0 where
-  pub exact : IsTrue (is_some inst) ↔ HasReading rows i s goal before body
+  pub exact : (q : Placement) → IsLettered i s q → IsTrue (is_some inst) ↔ HasReading rows i s goal before body
   pub placed : (p : Placement) (unique : ℕ) (text : List Sign) → IsLettered i s p → body_text i p unique body ≡ Ok text → text_inst count (body_reading rows i s goal before text) ≡ option_map (inst_under p) inst
 
 -- the statements of a template
