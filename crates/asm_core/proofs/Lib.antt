@@ -1,5 +1,7 @@
 mod Examples
 pub mod BytesRead
+pub mod CopyLaws
+pub mod DecideLaws
 pub mod FactLaws
 pub mod FlagLaws
 pub mod Keeping
@@ -12,4 +14,5 @@ pub mod ReadingLaws
 pub mod RegisterLaws
 pub mod Runs
 pub mod StepLaws
+pub mod ValuesLeft
 pub mod WriteLaws
