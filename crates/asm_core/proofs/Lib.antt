@@ -6,6 +6,7 @@ pub mod FactLaws
 pub mod FlagLaws
 pub mod Keeping
 pub mod LastWrites
+pub mod Laws
 pub mod MachineLaws
 pub mod PlacedLaws
 pub mod Puts

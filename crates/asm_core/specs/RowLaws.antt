@@ -316,3 +316,17 @@ pub record IsDone (row : List MicroOp) (s : Sym) (x : Stand) : Type 0 where
 abbrev pub AgreesOnWrites : List MicroOp → Sym → Stand → Stand → Type 0
 AgreesOnWrites row s x y = (k o : ℕ) (w : Write) (c d : Component) → IsLast x.at s row x.before k o w c → IsLast y.at s row y.before k o w d
     → AgreesOn s.width (reads_at s x) (reads_at s y) (fact_in (line_facts row s) k).names → component_in c x.after ≡ component_in d y.after
+
+-- A call that steps an instruction by a row obeys the laws, wherever the line is that the instruction comes from.
+pub record ObeysLaws (row : List MicroOp) (i : Inst) (goal choice : ℕ) (words : List ℕ) (before after : Machine) : Type 0 where
+  pub changes : (p : Placement) (s : Sym) → i ≡ inst_under p s → FitsTargets p s row → ChangesOnly (IsToldByOne p before (writes_of row s)) before after
+  pub values : (p : Placement) (s : Sym) → i ≡ inst_under p s → IsMachine before → FitsTargets p s row → is_over row (values_of i.width (read_in i choice words before) row) ≡ false
+      → IsAfter (row_ended row i goal choice words before) after → LeavesValues p s row (values_of i.width (read_in i choice words before) row) before after
+  pub copies : (p : Placement) (s : Sym) → i ≡ inst_under p s → IsMachine before → FitsTargets p s row → FitsCopies p s row → is_over row (values_of i.width (read_in i choice words before) row) ≡ false
+      → IsAfter (row_ended row i goal choice words before) after → LeavesCopies p s row before after
+
+-- The laws of what a line names: with a row's values, and with two placements.
+pub record DecidesLine (row : List MicroOp) (s : Sym) : Type 0 where
+  pub names : NamesDecide row s.width (known_in s)
+  pub placed : (p : Placement) → IsPlaced p s → StepsAsLine p s
+  pub writes : length s.args ≤ 3 → (x y : Stand) → IsDone row s x → IsDone row s y → AgreesOnWrites row s x y
