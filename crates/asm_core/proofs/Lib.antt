@@ -1,10 +1,13 @@
 mod Examples
 pub mod BytesRead
 pub mod CompanyLaws
+pub mod CopyLaws
+pub mod DecideLaws
 pub mod FactLaws
 pub mod FlagLaws
 pub mod Keeping
 pub mod LastWrites
+pub mod Laws
 pub mod MachineLaws
 pub mod PlacedLaws
 pub mod Puts
@@ -14,4 +17,5 @@ pub mod RegisterLaws
 pub mod Runs
 pub mod ShapeLaws
 pub mod StepLaws
+pub mod ValuesLeft
 pub mod WriteLaws

@@ -1,7 +1,7 @@
 ghost use Rattle.std.specs.Prelude.{◌≡◌, ◌≤◌, ◌∷◌, ◌++◌, length, map, filter, slice_get};
 ghost use Rattle.std.specs.List.{filter_map};
 ghost use Rattle.asm_core.specs.Entries.{origins, source_in, has_name, sources_of, names_where, is_control, is_write, is_of_use, uses_of, reads_of, register_arg_of, pointed_arg, line_arg, first_in_name, copied, set_to, by_of, write_to_site, write_to, write_of, writes_of, write_numbers, if_named, named_of, known_in};
-ghost use Rattle.asm_core.specs.RowLaws.{NamesDecide, ReadsKnown};
+ghost use Rattle.asm_core.specs.RowLaws.{DecidesLine, NamesDecide, ReadsKnown};
 ghost use Rattle.asm_core.specs.declared.placement.Placement.{Placement};
 ghost use Rattle.x86_rows.specs.Purpose.{targets_of};
 
@@ -354,12 +354,14 @@ fn named_source(row: &[MicroOp], s: &Sym, k: usize, j: usize) -> Option<Source>
 }
 
 /// The j-th thing that the k-th write names. Nothing where the write is a copy or sets a flag. What is named decides: two
-/// readings that agree on it give equal values, and numbers are read as they are known.
+/// readings that agree on it give equal values, and numbers are read as they are known. Two steps of the line at any two
+/// placements that agree on what a write names agree on what is written, and a placed line steps as the line says.
 pub fn named(row: &[MicroOp], s: &Sym, k: usize, j: usize) -> Option<Source>
     requires { length row.now ≤ 40 }
     ensures is { result ≡ slice_get (named_of row.now s.now k) j }
     ensures decides { NamesDecide row.now s.now.width (known_in s.now) }
     ensures known { length s.now.args ≤ 3 → (p : Placement) → ReadsKnown p s.now }
+    ensures line { DecidesLine row.now s.now }
 {
     named_source(row, s, k, j)
 }

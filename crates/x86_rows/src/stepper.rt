@@ -1,7 +1,7 @@
 ghost use Rattle.std.specs.Prelude.{◌≡◌, ◌+◌, ◌<◌, ◌≤◌, ◌^◌, ◌&&◌, length, slice_index};
 ghost use Rattle.std.specs.List.{list_all, list_any};
 ghost use Rattle.asm_core.specs.MicroOps.{input_of, op_value, values_of, read_in, is_good_op, destinations_of, put_all, any_value, is_zero, is_set, is_jump, is_stay, is_turn, is_divide, next_of, is_over, divides, takes_outside, is_outside, written, ended_by, row_ended};
-ghost use Rattle.asm_core.specs.RowLaws.{ChangesDestinations};
+ghost use Rattle.asm_core.specs.RowLaws.{ChangesDestinations, ObeysLaws};
 ghost use Rattle.asm_core.specs.Rows.{IsStepOf};
 ghost use Rattle.x86_rows.specs.Control.{kind_of, test_of};
 
@@ -179,12 +179,14 @@ fn step_by_row(m: &mut Machine, row: &[MicroOp], line: &Line, goal: u32) -> Step
 }
 
 /// Does one step of an instruction whose row this is. It goes on at the goal where it jumps. After a fault the machine is as
-/// before, and in any case only what is at the row's destinations has changed, beside the position.
+/// before, and in any case only what is at the row's destinations has changed, beside the position. Wherever the line is that
+/// the instruction comes from, only what the line's writes tell has changed, and copies are copied.
 pub fn step(m: &mut Machine, row: &[MicroOp], line: &Line, goal: u32) -> StepEnd
     requires few { length row.now ≤ 40 }
     requires at { m.old.at + 1 < 2 ^ 32 }
     ensures is { IsStepOf result (row_ended row.now line.now.inst.now goal line.now.choice line.now.words.now m.old) m.old m.new }
     ensures changes { ChangesDestinations row.now line.now.inst.now m.old m.new }
+    ensures obeys { ObeysLaws row.now line.now.inst.now goal line.now.choice line.now.words.now m.old m.new }
 {
     step_by_row(m, row, line, goal)
 }
