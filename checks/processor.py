@@ -6,9 +6,9 @@ choices of registers and addresses, on states with edge values and on random one
 x86_table, built without a proof by `rt try`, reads the instruction's text and steps it, twice: with all undefined bits
 and all words from outside 0, and with all 1. A program of gcc -m32 runs the same instruction on the processor. All bits
 that both steps agree on have to be the processor's: registers, flags, memory and stack, whether it jumped, and whether
-it was a division that can't be done. The check prints how many states each row was compared in, and which bits the
-rows leave open. The states are the same in each run. Status 0 where nothing differs and each row was compared, 77 where
-no program of gcc -m32 runs, else 1.
+it was a division that can't be done. The check prints in how many states each row was compared (in the small size in
+how many each operation and size), and which bits the operations leave open. The states are the same in each run. Status
+0 where nothing differs and each row was compared, 77 where no program of gcc -m32 runs here, else 1.
 """
 import collections
 import pathlib
@@ -19,7 +19,7 @@ import textwrap
 
 from support.check import arguments
 from support.instruction_rows import instructions
-from support.machine_states import BYTES, FLAG_NAMES, FLAGS, NAMES, States, packed
+from support.machine_states import BYTES, ESP, FLAG_NAMES, FLAGS, NAMES, PUSHED, States, packed
 from support.processor import demand_processor, outcomes
 from support.trial import program_in, told
 
@@ -34,7 +34,7 @@ SHOWN = 40
 
 
 def sections(cases):
-    """The files for the program: by a name, the instructions in them."""
+    """Files for the program: an instruction, how many states, and the states, one case behind the other."""
     files, size = [[]], 0
     for instruction, states in cases:
         bytes_ = b"".join(map(packed, states))
@@ -46,8 +46,8 @@ def sections(cases):
     return files
 
 
-def steps_told(cases):
-    """The lines that the program prints of all instructions."""
+def step_lines(cases):
+    """The lines that the program prints of all cases."""
     with tempfile.TemporaryDirectory() as name:
         folder = pathlib.Path(name)
         (folder / "cases").mkdir()
@@ -69,8 +69,8 @@ def step(line, state):
 
 
 def step_pairs(cases):
-    """For each instruction its steps with all bits 0 and all bits 1 from each state, or None where it isn't read."""
-    lines = steps_told(cases)
+    """For each case the steps from each state with all bits 0 and with all 1; None where the text isn't read."""
+    lines = step_lines(cases)
     for _, states in cases:
         pairs = []
         for state in states:
@@ -82,16 +82,25 @@ def step_pairs(cases):
         yield pairs
 
 
-def name_of(word, bits):
-    """The names of the word's bits."""
-    if word != FLAGS:
+def names_of(word, bits):
+    """What the bits of that word of a state are called."""
+    if word == FLAGS:
+        return [name for k, name in enumerate(FLAG_NAMES) if bits >> k & 1]
+    if word <= ESP:
         return [NAMES[word]]
-    return [name for k, name in enumerate(FLAG_NAMES) if bits >> k & 1]
+    return ["memory" if word < PUSHED else "stack"]
+
+
+def filled(head, words):
+    return textwrap.fill(f"{head}: {'; '.join(words)}", 120, subsequent_indent="    ", break_long_words=False)
 
 
 class Comparison:
+    """How many states each row, each operation and size was compared in, what is left open, and what differs."""
+
     def __init__(self):
         self.rows = collections.Counter()
+        self.sizes = collections.Counter()
         self.open = collections.defaultdict(set)
         self.wrong = []
 
@@ -99,53 +108,61 @@ class Comparison:
         """Compares the two steps from a state with what the processor does."""
         (how, words), (other, others) = pair
         self.rows[instruction.row] += 1
+        self.sizes[instruction.name] += 1
         if how != other or how != real[0]:
-            self.wrong.append((instruction, state, f"{how} or {other}, but {real[0]}"))
+            self.differs(instruction, state, f"{how} or {other}, but {real[0]}")
             return
         for k, (word, second, found) in enumerate(zip(words, others, real[1], strict=True)):
-            self.open[instruction.row].update(name_of(k, word ^ second) if word != second else ())
+            self.leave_open(instruction, k, word ^ second)
             bits = (word ^ found) & ~(word ^ second)
             if bits:
-                what = f"{' '.join(name_of(k, bits))} {word:#x}, but {found:#x}"
-                self.wrong.append((instruction, state, what))
+                self.differs(instruction, state, f"{' '.join(names_of(k, bits))} {word:#x}, but {found:#x}")
 
-    def unread(self, instruction):
-        self.rows[instruction.row] += 0
-        self.wrong.append((instruction, [], "it has no reading"))
+    def add_all(self, instruction, states, pairs, real):
+        if pairs is None:
+            self.rows[instruction.row] += 0
+            self.differs(instruction, [], "it has no reading")
+            return
+        for told_of in zip(states, pairs, real, strict=True):
+            self.add(instruction, *told_of)
 
-    def show(self):
-        shown = [f"{row} {count}" for row, count in self.rows.items()]
-        left = [f"{row} {' '.join(sorted(names))}" for row, names in self.open.items() if names]
-        for head, words in (("states", shown), ("open", left)):
-            print(textwrap.fill(f"{head}: {'; '.join(words)}", 120, subsequent_indent="    ", break_long_words=False))
-        for instruction, state, what in self.wrong[:SHOWN]:
-            registers = " ".join(f"{name} {word:#x}" for name, word in zip(NAMES[:BYTES], state))
-            print(f"{instruction.text}: {what}; from {registers}, memory {packed(state[BYTES:]).hex()}")
+    def leave_open(self, instruction, word, bits):
+        if bits:
+            self.open[instruction.operation].update(names_of(word, bits) if word >= ESP else ["registers"])
+
+    def differs(self, instruction, state, what):
+        registers = " ".join(f"{name} {word:#x}" for name, word in zip(NAMES, state))
+        self.wrong.append(f"{instruction.text}: {what}; from {registers}, memory {packed(state[BYTES:]).hex()}")
+
+    def show(self, size):
+        states = self.rows if size == "full" else self.sizes
+        print(filled("states", [f"{row} {count}" for row, count in states.items()]))
+        print(filled("left open", [f"{name} {' '.join(sorted(bits))}" for name, bits in self.open.items()]))
+        print(*self.wrong[:SHOWN], sep="\n", end="\n" if self.wrong else "")
+
+
+def chosen_cases(size):
+    """Instructions of each row, each with its states."""
+    variants, pairs, count = SIZES[size]
+    chance = random.Random(SEED)
+    listed = list(instructions(chance, variants))
+    choices = collections.Counter(it.row for it in listed)
+    return [(it, list(States(chance, it).all(pairs, count // choices[it.row] + 1))) for it in listed]
 
 
 def main():
     size = arguments(__doc__).size
     demand_processor()
-    chance = random.Random(SEED)
-    variants, pairs, count = SIZES[size]
-    listed = list(instructions(chance, variants))
-    choices = collections.Counter((it.row, it.size) for it in listed)
-    cases = [(it, list(States(chance, it).all(pairs, count // choices[it.row, it.size] + 1))) for it in listed]
+    cases = chosen_cases(size)
     runs = [(k, state) for k, (_, states) in enumerate(cases) for state in states]
     real = iter(outcomes([it.text for it, _ in cases], runs))
     found = Comparison()
-    for (instruction, states), answers in zip(cases, step_pairs(cases), strict=True):
-        there = [next(real) for _ in states]
-        if answers is None:
-            found.unread(instruction)
-            continue
-        for state, pair, one in zip(states, answers, there, strict=True):
-            found.add(instruction, state, pair, one)
-    found.show()
+    for (instruction, states), pairs in zip(cases, step_pairs(cases), strict=True):
+        found.add_all(instruction, states, pairs, [next(real) for _ in states])
+    found.show(size)
     empty = [row for row, count in found.rows.items() if not count]
-    print(f"{len(found.rows)} rows, {len(cases)} instructions, {sum(found.rows.values())} states: {len(found.wrong)} differ")
-    if empty:
-        print(f"not compared: {', '.join(empty)}")
+    told_of = f"{len(found.rows)} rows as {len(cases)} instructions in {sum(found.rows.values())} states"
+    print(f"{told_of}: {len(found.wrong)} differ, {len(empty)} rows not compared {' '.join(empty)}".rstrip())
     return 1 if found.wrong or empty else 0
 
 

@@ -24,16 +24,16 @@ import tempfile
 
 from support import hole_statements
 from support.assembler import assembled, demand_assembler
-from support.att_lines import Changes, Lines
+from support.att_lines import Changes, Lines, is_apart
 from support.check import arguments
 from support.compiler import demand_gcc
 from support.left_out import reason, refusal
-from support.read_lines import blocks, misnamed, without_pause, written_out
+from support.read_lines import blocks, difference, written_out
 from support.trial import program_in, told
 
 CRATES = (
-    "asm_constraints asm_core asm_places asm_statement asm_template att_reader bitflags c_decls c_exprs c_scopes c_tokens"
-    " c_words ck_ports"
+    "asm_constraints asm_core asm_places asm_statement asm_template att_reader bitflags"
+    " c_decls c_exprs c_scopes c_tokens c_words ck_ports"
 )
 MODULES = ("placements", "plain_lines", "push_lines", "statement_interface")
 SEED = 8
@@ -68,12 +68,6 @@ def rows_again(found):
     """The disassembled instructions of each text that is read, written out in full."""
     texts = [written_out(block, number) if block.is_read() else "" for number, block in enumerate(found)]
     return assembled(texts, [False] * len(texts))
-
-
-def difference(block, rows, again):
-    """How what is read differs from the assembler's instructions; an empty text where it doesn't."""
-    rows = without_pause(rows)
-    return misnamed(block, rows) or (f"{'; '.join(rows)}, but {'; '.join(again or ['nothing'])}" if rows != again else "")
 
 
 class Comparison:
@@ -128,25 +122,41 @@ def chosen_lines(chance, count):
         yield changes.changed(line) if chance.random() < 0.75 else line
 
 
+def read_all(lines, made):
+    """What is read of the lines, of what gcc printed of the statements, and of the statements' templates."""
+    texts = text_files([line.text for line in lines] + [one.printed for one in made])
+    statements = hole_statements.files(made)
+    found = read_blocks(texts | statements)
+    plain, placed = ([block for name in files for block in found[name]] for files in (texts, statements))
+    return plain[: len(lines)], plain[len(lines) :], placed
+
+
+def wrong_lines(lines, read):
+    """What is wrong with the lines; the counts of the others are printed."""
+    rows = assembled([line.text for line in lines], [line.is_apart for line in lines])
+    compared = Comparison()
+    for line, *told_of in zip(lines, read, rows, rows_again(read), strict=True):
+        compared.add(line, *told_of)
+    compared.show()
+    return compared.wrong
+
+
+def wrong_statements(made, plain, placed):
+    printed = [one.printed for one in made]
+    rows = assembled(printed, map(is_apart, printed))
+    return hole_statements.compared(made, placed, plain, rows, rows_again(placed))
+
+
 def main():
     size = arguments(__doc__).size
     demand_gcc()
     demand_assembler()
     chance = random.Random(SEED)
-    count, statement_count = SIZES[size]
-    lines = list(chosen_lines(chance, count))
+    line_count, statement_count = SIZES[size]
+    lines = list(chosen_lines(chance, line_count))
     made = hole_statements.compiled(chance, statement_count)
-    plain = [statement.printed for statement in made]
-    texts = [line.text for line in lines] + plain
-    found = read_blocks(text_files(texts) | hole_statements.files(made))
-    read = [block for name in text_files(texts) for block in found[name]]
-    rows = assembled(texts, [line.is_apart for line in lines] + [True] * len(plain))
-    compared = Comparison()
-    for line, *told_of in zip(lines, read, rows, rows_again(read[: len(lines)])):
-        compared.add(line, *told_of)
-    compared.show()
-    placed = [block for name in hole_statements.files(made) for block in found[name]]
-    wrong = compared.wrong + hole_statements.compared(made, placed, read[len(lines) :], rows[len(lines) :], rows_again(placed))
+    read, plain, placed = read_all(lines, made)
+    wrong = wrong_lines(lines, read) + wrong_statements(made, plain, placed)
     for line in wrong[:SHOWN]:
         print(line)
     print(f"{len(lines)} lines and {len(made)} compiled statements: {len(wrong)} wrong")

@@ -7,7 +7,7 @@ from concurrent.futures import ThreadPoolExecutor
 
 from support.check import skip
 
-# More lines in one run of the assembler than the small size has.
+# How many texts one run of the assembler takes.
 GROUP = 4000
 # Stands behind each text, so that no two labels have the same address.
 END = "ud2"
@@ -38,7 +38,7 @@ def disassembled(output):
         elif row := re.match(r" +[0-9a-f]+:\t(.*)", line):
             rows.append(re.sub(r"\b([0-9a-f]+) <.*>$", lambda it: f"{int(it[1], 16) - begin:+d}", row[1].strip()))
     texts = {int(name[4:]): rows for name, rows in found.items() if re.fullmatch(r"text\d+", name)}
-    return {number: rows[:-1] if rows[-1] == END else rows for number, rows in texts.items()}
+    return {number: rows[:-1] if rows[-1:] == [END] else rows for number, rows in texts.items()}
 
 
 def group_assembled(texts, numbers):
@@ -51,8 +51,11 @@ def group_assembled(texts, numbers):
             source.write_text(text, "latin-1")
             done = run(["as", "--32", "-o", str(output), str(source)])
             if done.returncode == 0:
-                return disassembled(output)
-            refused = {owners[int(line)] for line in re.findall(r"\.s:(\d+): Error", done.stderr) if int(line) < len(owners)}
+                rows = disassembled(output)
+                # Where a text defines a name, its instructions stand behind that.
+                return {number: rows.get(number, []) for number in left}
+            lines = map(int, re.findall(r"\.s:(\d+): Error", done.stderr))
+            refused = {owners[line] for line in lines if line < len(owners)}
             if not refused:
                 half = len(left) // 2
                 return group_assembled(texts, left[:half]) | group_assembled(texts, left[half:]) if half else {}
@@ -65,6 +68,7 @@ def assembled(texts, apart):
 
     Those of which `apart` holds are assembled alone, so that the labels of no other are seen in them.
     """
+    apart = list(apart)
     alone = [number for number, text in enumerate(texts) if apart[number]]
     together = [number for number in range(len(texts)) if not apart[number]]
     groups = [[number] for number in alone] + [together[at : at + GROUP] for at in range(0, len(together), GROUP)]

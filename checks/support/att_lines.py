@@ -24,6 +24,7 @@ OTHER_ADDRESSES = (
     " foo(%eax) (%ax) (%bx) (%bx,%si) (%esp) 4(%esp,%eax,2) (%eax,%esp) 4+4(%eax) -(%eax) (%eax)4 (%eax,%ebx,%ecx)"
     " (%eax,%ebx,$2) $4(%eax) (4) (eax) 0x10(%ebp,%edi,0x2) (%eax,%ebx,02) (%al) (%eax,%bx,2) 4(,) (%eax,,2) (,,4)"
 ).split()
+OTHER_GOALS = ("1 f", *"1b 2f 1 01f 1c 12345f *%eax 4 .+4 foo 0f 1F $1f (1f) 1f,1f".split())
 LABELS = ("1:", "12:1:", "12345:", "foo:", ".L1:", "1 :", ":", "1:2:", "01:", "1", "$1:", "9999: ", "1::", "a1:", "1a:")
 BYTES = "abelqwxz0159%$(),:;#*+-._~ \t@'\"&|{}/\\=<>!?[]^`\r\v"
 
@@ -37,11 +38,17 @@ class Line:
 
     @property
     def is_apart(self):
-        """Whether other lines would change its meaning, or it theirs, by labels or by a quote or comment without an end."""
-        return bool(re.search(r"\d[bf]\b|\.L|\bfoo\b|\d:|[\"'\\/\r\v]", self.text))
+        """Whether other lines would change its meaning, or it theirs: by labels, or by a quote without an end."""
+        return is_apart(self.text)
+
+
+def is_apart(text):
+    return bool(re.search(r"\d[bf]\b|\.L|\bfoo\b|\d:|[\"'\\/\r\v]", text))
 
 
 class Lines:
+    """Lines of the table of names, with operands by chance."""
+
     def __init__(self, random):
         self.random = random
         self.rows = name_rows()
@@ -56,9 +63,8 @@ class Lines:
         """Any address: a displacement, a base, an index and a scale, of which some are missing."""
         base, index = (f"%{self.random.choice(LONG)}" for _ in range(2))
         scale = self.random.choice((1, 2, 4, 8))
-        form = self.random.choice(
-            ("", f"({base})", f"({base})", f"({base},{index})", f"({base},{index},{scale})", f"(,{index},{scale})", f"(,{index})")
-        )
+        inside = (base, base, f"{base},{index}", f"{base},{index},{scale}", f",{index},{scale}", f",{index}")
+        form = self.random.choice(("", *(f"({it})" for it in inside)))
         return (self.number(32) if not form or self.random.random() < 0.6 else "") + form
 
     def operand(self, kind, size):
@@ -95,7 +101,7 @@ class Lines:
                 yield dataclasses.replace(line, text=f"{prefix}{between}{line.text}")
 
     def table(self):
-        """Every spelling of the table in each size and with each kind of operands, and with the prefixes that it may have."""
+        """Every spelling of the table in each size and with each kind of operands, and with each prefix."""
         for row in self.rows:
             for name in row.names:
                 for kinds in row.kinds():
@@ -104,7 +110,7 @@ class Lines:
                         yield from self.prefixed(row, kinds, line)
 
     def any_line(self):
-        """A line of the table by chance, or up to three of them."""
+        """A line of the table by chance."""
         row = self.random.choice(self.rows)
         kinds = self.random.choice(row.kinds())
         line = self.random.choice(list(self.lines_of(row, self.random.choice(row.names), kinds)))
@@ -173,15 +179,14 @@ class Changes:
         return self.replaced(r"(-?\w+)?\([^)]*\)|%\w+", text, OTHER_ADDRESSES)
 
     def with_prefix(self, text):
-        words = (*PREFIXES, "data16", "addr16", "cs", "repn", "LOCK", "rep rep", "lock lock", "rep;;", "lock # a\n", "lock 1:")
-        return f"{self.random.choice(words)}{self.random.choice((' ', ';', ' ; ', chr(10), ''))}{text}"
+        others = ("data16", "addr16", "cs", "repn", "LOCK", "rep rep", "lock lock", "rep;;", "lock # a\n", "lock 1:")
+        return self.random.choice(PREFIXES + others) + self.random.choice((" ", ";", " ; ", "\n", "")) + text
 
     def with_label(self, text):
         return f"{self.random.choice(LABELS)}{self.random.choice(('', ' '))}{text}"
 
     def with_goal(self, text):
-        goals = ("1b", "2f", "1", "01f", "1c", "12345f", "*%eax", "4", ".+4", "foo", "0f", "1F", "1 f", "$1f", "(1f)", "1f,1f")
-        return self.replaced(r"\b1f\b", text, goals)
+        return self.replaced(r"\b1f\b", text, OTHER_GOALS)
 
     def with_capital(self, text):
         at = self.random.randrange(len(text))

@@ -8,16 +8,20 @@ import tempfile
 from concurrent.futures import ThreadPoolExecutor
 
 from support.asm_placements import ADDRESS, NAMES, REGISTERS
-from support.att_lines import Line, Lines
+from support.att_lines import Lines
 from support.compiler import gcc
-from support.read_lines import misnamed, without_pause
+from support.read_lines import difference
 
 LEVELS = ("-O0", "-O2")
 # How many functions gcc compiles at once: it may stop at the first one that it refuses.
 GROUP = 12
 HEAD = "int i0, int i1, int i2, short s0, short s1, char b0, char b1, long long l, int *p, short *q, char *r"
 LOCALS = "int x = i0; short y = s0; char z = b0; int n = 7;"
-LVALUES = {"b": "b0 b1 z *r r[2] r[i1]".split(), "w": "s0 s1 y *q q[1] q[i1]".split(), "l": "i0 i1 x *p p[3] p[i2]".split()}
+LVALUES = {
+    "b": "b0 b1 z *r r[2] r[i1]".split(),
+    "w": "s0 s1 y *q q[1] q[i1]".split(),
+    "l": "i0 i1 x *p p[3] p[i2]".split(),
+}
 CONSTANTS = "0 1 3 5 7 31 -1 -128 127 sizeof(int) n".split()
 LETTERS = {"b": "qQabcd", "w": "rrrqQabcdSD", "l": "rrrrqQabcdSD"}
 MODIFIERS = {"b": "b", "w": "w", "l": "k"}
@@ -115,9 +119,11 @@ class Generator:
         """A register as a hole, by its own size or by a modifier, or as it is written."""
         if self.one_of(0.1):
             return [self.lines.operand("R", size)]
+        if size == "l" and self.one_of(0.05):
+            return [Hole(Operand("A", "l", "+"))]
         own = self.random.choice("bwl")
         if own == size:
-            return [Hole(Operand("A", "l", "+"))] if size == "l" and self.one_of(0.05) else [Hole(self.operand("R", size))]
+            return [Hole(self.operand("R", size))]
         operand = self.operand("R", own)
         if size == "b":
             operand.constraint = self.random.choice("qQabcd")
@@ -249,8 +255,8 @@ def fault(made, block, plain, rows, again):
         return f"not read ({block.why or 'a line'})"
     if rows is None:
         return "read, and the assembler refuses it"
-    if misnamed(block, without_pause(rows)) or without_pause(rows) != again:
-        return f"{'; '.join(rows)}, but {'; '.join(again or ['nothing'])}"
+    if why := difference(block, rows, again):
+        return why
     if is_plain(made) and plain.insts != block.insts:
         return f"read as {[it if isinstance(it, str) else it.written('') for it in plain.insts]} where it is written"
     return ""
@@ -271,7 +277,3 @@ def compared(made, blocks, plains, rows, again):
         print(f"gcc {level}: {read} statements as gcc prints them, {left} left out, {neither} read by neither")
     print(f"    of these {counts['plain']} read alike from what gcc printed")
     return wrong
-
-
-def is_apart(made):
-    return Line(made.printed).is_apart

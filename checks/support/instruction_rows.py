@@ -26,6 +26,8 @@ NUMBERS = {
     "w": (0, 1, 127, 128, 0x7FFF, -0x8000, -1, 0xFFFF, 0x1234),
     "l": (0, 1, 127, 128, 0x7FFFFFFF, -0x80000000, -1, 0xFFFFFFFF, 0x12345678),
 }
+# Those whose number is a count, or the place of a bit.
+COUNTING = "shl shr sar rol ror shld shrd bt bts btr btc".split()
 # Each operation with its sizes and, for each operand, the kinds: R a register, M memory, I a number, C a number or
 # `%cl`, T a label; behind a kind a size that isn't the instruction's.
 ROWS = (
@@ -82,11 +84,19 @@ class Operand:
 
 @dataclasses.dataclass(frozen=True)
 class Instruction:
-    # The operation, its size and the kinds of its operands.
-    row: str
-    name: str
+    operation: str
+    # `-` where the operation has no other size.
     size: str
     operands: tuple
+
+    @property
+    def name(self):
+        return self.operation if self.size == "-" else self.operation + self.size
+
+    @property
+    def row(self):
+        """The operation, its size and the kinds of its operands."""
+        return f"{self.name} {','.join(operand.kind for operand in self.operands)}".rstrip()
 
     @property
     def text(self):
@@ -94,14 +104,10 @@ class Instruction:
         return f"{self.name} {written}; nop; 1:" if written == "1f" else f"{self.name} {written}".rstrip()
 
 
-def is_counting(name):
-    """Whether a number of the instruction is a count or the place of a bit."""
-    return name.rstrip("wl") in ("bt", "bts", "btr", "btc") or name[:3] in ("shl", "shr", "sar", "rol", "ror")
-
-
-def numbers(name, size):
+def numbers(operation, size):
+    """Numbers that stand as operands: of counts and places of bits those that turn at the width."""
     width = LETTERS.get(size, 32)
-    return (0, 1, 2, width - 1, width, width + 1, 31) if is_counting(name) else NUMBERS[size]
+    return (0, 1, 2, width - 1, width, width + 1, 31) if operation in COUNTING else NUMBERS[size]
 
 
 def written(random, kind, size):
@@ -122,7 +128,8 @@ def combinations(size, slots):
     parts = []
     for slot in slots:
         own = slot[-1] if slot[-1].islower() else size
-        parts.append([(kind, own) for letter in slot if letter.isupper() for kind in ("CI" if letter == "C" else letter)])
+        kinds = slot.rstrip("bwlq").replace("C", "CI")
+        parts.append([(kind, own) for kind in kinds])
     return [kinds for kinds in itertools.product(*parts) if sum(kind == "M" for kind, _ in kinds) < 2]
 
 
@@ -132,29 +139,28 @@ def is_apart(operands):
     return address.isdisjoint(operand.register for operand in operands if operand.kind in "RC")
 
 
-def variants(random, name, size, kinds, count):
+def operands_of(random, kinds, number):
+    """Operands of these kinds by chance, of which a number is given."""
+    while True:
+        operands = tuple(
+            Operand("I", f"${number}", LETTERS[own]) if kind == "I" else written(random, kind, own)
+            for kind, own in kinds
+        )
+        if is_apart(operands):
+            return operands
+
+
+def variants(random, operation, size, kinds, count):
     """Instructions with operands of these kinds: `count` of them, or one for each number, by chance otherwise."""
-    found = {}
-    places = [k for k, (kind, _) in enumerate(kinds) if kind == "I"]
-    choices = numbers(name, kinds[places[0]][1]) if places else [None] * count
-    row = f"{name} {','.join(kind for kind, _ in kinds)}".rstrip()
-    for number in choices:
-        while True:
-            operands = [
-                Operand("I", f"${number}", LETTERS[own]) if kind == "I" else written(random, kind, own)
-                for kind, own in kinds
-            ]
-            if is_apart(operands):
-                break
-        instruction = Instruction(row, name, size, tuple(operands))
-        found.setdefault(instruction.text, instruction)
-    return found.values()
+    sizes = [own for kind, own in kinds if kind == "I"]
+    choices = numbers(operation, sizes[0]) if sizes else [None] * count
+    made = (Instruction(operation, size, operands_of(random, kinds, number)) for number in choices)
+    return {instruction.text: instruction for instruction in made}.values()
 
 
 def instructions(random, count):
     """Instructions of every row, size and combination of kinds, `count` of each with other registers."""
-    for name, sizes, *slots in ROWS:
+    for operation, sizes, *slots in ROWS:
         for size in sizes:
-            suffixed = name if size == "-" else name + size
             for kinds in combinations(size, slots):
-                yield from variants(random, suffixed, size, kinds, count)
+                yield from variants(random, operation, size, kinds, count)

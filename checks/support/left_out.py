@@ -76,6 +76,12 @@ def fits(row, size, statement):
     return all(map(stands, row.slots, [size] * len(kinds), statement.operands, kinds))
 
 
+def gives_size(row, statement, size):
+    """Whether some register has the instruction's size."""
+    places = zip(statement.operands, row.slots)
+    return any(SIZES.get(operand) == size for operand, (allowed, own) in places if allowed != "C" and not own)
+
+
 def forms(statement):
     """The rows that the statement may be, by their sizes, with what gives the size: a suffix, the row or a register."""
     for row in ROWS:
@@ -84,10 +90,9 @@ def forms(statement):
                 if statement.name == name + size and fits(row, size, statement):
                     yield row, True
             if statement.name == name:
-                given = {SIZES.get(it) for it, slot in zip(statement.operands, row.slots) if slot[0] != "C" and not slot[1]}
-                for size in row.suffixes if not row.width else row.width:
+                for size in row.width or row.suffixes:
                     if fits(row, size, statement):
-                        yield row, bool(row.width) or size in given
+                        yield row, bool(row.width) or gives_size(row, statement, size)
 
 
 def takes(row, statement):

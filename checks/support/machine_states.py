@@ -8,7 +8,7 @@ from support.instruction_rows import MEMORY
 WORDS = 19
 ESP, FLAGS, BYTES, PUSHED = 7, 8, 9, 17
 ECX, ESI, EDI = 2, 4, 5
-NAMES = ("eax", "ebx", "ecx", "edx", "esi", "edi", "ebp", "esp", "flags", *["memory"] * 8, *["stack"] * 2)
+NAMES = ("eax", "ebx", "ecx", "edx", "esi", "edi", "ebp", "esp", "flags")
 BASE = 0x20000000
 STACK = 0x20000800
 # CF PF AF ZF SF OF DF, as bits of the processor's register of flags.
@@ -92,7 +92,7 @@ class States:
             self.prepare_string(words)
 
     def is_string(self):
-        return self.instruction.name.split()[-1][:-1] in ("movs", "stos", "lods", "cmps", "scas")
+        return self.instruction.operation.split()[-1] in ("movs", "stos", "lods", "cmps", "scas")
 
     def prepare_division(self, words):
         """A dividend whose upper half is small, of a random sign: else nearly every quotient would be too large."""

@@ -108,6 +108,17 @@ def without_pause(rows):
     return ["nop" if row == "pause" else row for row in rows]
 
 
+def difference(block, rows, again):
+    """How what is read differs from the assembler's instructions; an empty text where it doesn't.
+
+    Both are disassembled: the text itself, and what is read of it, written out.
+    """
+    rows = without_pause(rows)
+    if why := misnamed(block, rows):
+        return why
+    return "" if rows == again else f"{'; '.join(rows)}, but {'; '.join(again or ['nothing'])}"
+
+
 def misnamed(block, rows):
     """Why disassembled instructions are not named as those of a text; an empty text where they are."""
     if len(rows) != len(block.insts):
