@@ -28,7 +28,8 @@ SEED = 4
 # How many choices of registers a row is taken with; in each how many combinations of edge values; and how many random
 # states in all of them.
 SIZES = {"small": (2, 12, 24), "full": (5, 40, 300)}
-FILE_BYTES = 2_000_000
+# A program that runs for long is stopped.
+FILE_BYTES = 300_000
 # How many differences are shown.
 SHOWN = 40
 
@@ -48,14 +49,16 @@ def sections(cases):
 
 def step_lines(cases):
     """The lines that the program prints of all cases."""
+    files = {f"{number:05}": b"".join(part) for number, part in enumerate(sections(cases))}
     with tempfile.TemporaryDirectory() as name:
         folder = pathlib.Path(name)
         (folder / "cases").mkdir()
-        for number, part in enumerate(sections(cases)):
-            (folder / "cases" / f"{number:05}").write_bytes(b"".join(part))
-        crate = program_in(folder, "processor", CRATES, "plain_lines")
-        found = told(crate, folder / "cases")
-    return iter([line for name in sorted(found) for line in found[name]])
+        for file, content in files.items():
+            (folder / "cases" / file).write_bytes(content)
+        found = told(program_in(folder, "processor", CRATES, "plain_lines"), folder / "cases")
+    if found.keys() != files.keys():
+        raise RuntimeError("the program of the steps did not end")
+    return iter([line for name in files for line in found[name]])
 
 
 def step(line, state):

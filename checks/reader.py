@@ -52,6 +52,8 @@ def read_blocks(files):
         for file, content in files.items():
             (folder / "cases" / file).write_bytes(content)
         found = told(program_in(folder, "reader", CRATES, *MODULES), folder / "cases")
+    if found.keys() != files.keys():
+        raise RuntimeError("the program of the readings did not end")
     return {file: blocks(lines) for file, lines in found.items()}
 
 
