@@ -51,7 +51,7 @@ def answers(statements):
         cases.mkdir()
         for file, part in files.items():
             (cases / file).write_text(text_of(part))
-        found = told(program_in(folder, "interfaces", CRATES), cases)
+        found = told(program_in(folder, "interfaces", CRATES, "statement_interface"), cases)
     said = {}
     for file, part in files.items():
         text = text_of(part)

@@ -18,9 +18,10 @@ def crate_in(folder, name, crates, files):
     return copies / name
 
 
-def program_in(folder, name, crates):
-    """The crate of checks/programs/NAME.rattle."""
-    return crate_in(folder, name, crates, {"main.rt": ROOT / f"checks/programs/{name}.rattle"})
+def program_in(folder, name, crates, *modules):
+    """The crate of checks/programs/NAME.rattle, with the modules that it shares with other programs."""
+    files = {f"{module}.rt": ROOT / f"checks/programs/{module}.rattle" for module in modules}
+    return crate_in(folder, name, crates, {"main.rt": ROOT / f"checks/programs/{name}.rattle"} | files)
 
 
 def tried(crate, cases, *words):
