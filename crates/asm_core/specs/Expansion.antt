@@ -7,7 +7,7 @@ use Rattle.asm_core.specs.Placement.{spot_of}
 use Rattle.asm_core.specs.Comments.{comments_of}
 use Rattle.asm_core.specs.Pieces.{piece_code}
 use Rattle.asm_core.specs.Reading.Facts.{slice_of}
-use Rattle.asm_core.specs.Reading.Text.{Sign}
+use Rattle.asm_core.specs.declared.reading.Sign.{Sign}
 use Rattle.asm_core.specs.declared.reg.Reg.{Reg}
 use Rattle.asm_core.specs.declared.reg.Reg.TheVariants.{Eax, Ebx, Ecx, Edx, Esi, Edi, Ebp}
 use Rattle.asm_core.specs.declared.reg.Slice.{Slice}

@@ -75,3 +75,18 @@ pub struct NameRow {
     /// Whether instructions of this form are left out.
     pub left_out: bool,
 }
+
+/// The line of the table that an instruction has, what its name stands for there, and its size.
+#[derive(Clone, Copy, Debug)]
+pub struct Choice {
+    pub row: NameRow,
+    pub op: Op,
+    pub width: Width,
+}
+
+/// What prefixes make of an instruction.
+#[derive(Clone, Copy, Debug)]
+pub struct Prefixed {
+    pub repeat: Repeat,
+    pub lock: bool,
+}

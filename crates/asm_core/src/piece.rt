@@ -1,7 +1,7 @@
 ghost use Rattle.std.specs.Prelude.{◌≡◌};
 ghost use Rattle.asm_core.specs.declared.piece.PiecesEnd.{PiecesEnd};
 
-use crate::{Items, Mark, Memory};
+use crate::{Items, Mark, Memory, Slice};
 use std::alloc::{AllocError, AllocFailed};
 use thiserror::Error;
 
@@ -14,6 +14,24 @@ pub enum Modifier {
     K,
     H,
     C,
+}
+
+impl Modifier {
+    ghost use Rattle.asm_core.specs.Reading.Facts.{slice_of};
+
+    /// The part of a register that it names, of an operand of so many bytes; none for `%c0`.
+    pub fn slice(self, size: u32) -> Option<Slice>
+        ensures { result ≡ slice_of size self }
+    {
+        match self {
+            Modifier::Plain => Some(Slice::of_size(size)),
+            Modifier::B => Some(Slice::Low8),
+            Modifier::W => Some(Slice::Low16),
+            Modifier::K => Some(Slice::All),
+            Modifier::H => Some(Slice::High8),
+            Modifier::C => None,
+        }
+    }
 }
 
 /// A piece of a template, with the offset in the file at which it begins.

@@ -1,3 +1,5 @@
+ghost use Rattle.std.specs.Prelude.{◌≡◌};
+
 use crate::Reg;
 
 /// The base register of an address.
@@ -31,4 +33,18 @@ pub enum Spot {
 pub struct Placement {
     pub spots: [Spot; 30],
     pub count: u8,
+}
+
+impl Placement {
+    ghost use Rattle.asm_core.specs.Placement.{spot_of};
+
+    /// Where operand `k` is; the number 0 past the last spot.
+    pub fn spot(&self, k: u8) -> Spot
+        ensures { result ≡ spot_of self.now k }
+    {
+        match self.spots.get(usize::from(k)) {
+            Some(spot) => *spot,
+            None => Spot::Number(0),
+        }
+    }
 }

@@ -1,4 +1,4 @@
-use crate::{Disp, Form, Kind, Piece, Place, Reg, Slice};
+use crate::{Disp, Form, Items, Kind, Op, Piece, Place, Reg, Repeat, Slice, Width};
 
 /// What the reading of a line knows of an operand under a shape. Whatever else an interface says (clobbers, early marks, `+`)
 /// changes no reading.
@@ -34,6 +34,14 @@ pub enum Leaf {
     Nameless,
 }
 
+/// A byte of a template's text under a placement, with where it comes from.
+#[derive(Clone, Copy, Debug, PartialEq, Eq)]
+pub struct Sign {
+    pub byte: u8,
+    /// 0 for the template, k + 1 for operand k, 255 for the number that `%=` gives.
+    pub origin: u16,
+}
+
 /// A piece of a template with what it stands for.
 #[derive(Clone, Copy, Debug)]
 pub struct Atom {
@@ -53,4 +61,27 @@ pub enum LineOperand {
     Address(Disp, Option<Place>, Option<(Place, u8)>),
     /// A label, and the number of the instruction that it stands before, if it is there.
     Label(Option<u32>),
+}
+
+/// An instruction that is read.
+#[derive(Debug, Drop)]
+pub struct Line {
+    pub op: Op,
+    pub width: Width,
+    /// As they are written, from first to last.
+    pub operands: Items<LineOperand>,
+    pub repeat: Repeat,
+    pub lock: bool,
+    /// The offset in the file of the instruction's first byte, which is that of its first prefix.
+    pub place: u32,
+}
+
+/// What the table of names makes of an instruction.
+#[derive(Debug, Drop)]
+pub enum Reading {
+    Read(Line),
+    /// It is left out by name.
+    LeftOut,
+    /// The grammar has no reading of it.
+    Unread,
 }

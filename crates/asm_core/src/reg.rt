@@ -50,6 +50,21 @@ pub enum Slice {
     All,
 }
 
+impl Slice {
+    ghost use Rattle.asm_core.specs.Reading.Facts.{size_slice};
+
+    /// `al`, `ax` or `eax` by the size in bytes.
+    pub fn of_size(size: u32) -> Slice
+        ensures { result ≡ size_slice size }
+    {
+        match size {
+            1 => Slice::Low8,
+            2 => Slice::Low16,
+            _ => Slice::All,
+        }
+    }
+}
+
 /// A set of registers. Bit n is the n-th `Reg`.
 #[derive(Clone, Copy, Debug, PartialEq, Eq)]
 pub struct RegSet(u8);

@@ -73,6 +73,12 @@ impl Args {
         })
     }
 
+    pub fn push(&mut self, arg: Arg) -> Result<(), Memory>
+        ensures { OnOk result (self.new ≡ self.old ++ arg ∷ []) }
+    {
+        Ok(self.items.push(arg)?)
+    }
+
     pub fn as_slice(&self) -> &[Arg]
         ensures { result.now ≡ self.now }
     {

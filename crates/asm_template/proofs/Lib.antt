@@ -8,3 +8,4 @@ pub mod NumberedLemmas
 pub mod ApartLemmas
 pub mod UncommentedLemmas
 pub mod PieceLaws
+pub mod ExpansionLemmas

@@ -1,5 +1,5 @@
 -- What an answer says of the definition's value, memory aside.
-use Rattle.std.specs.Prelude.{◌≡◌, List, Result, Ok, Err}
+use Rattle.std.specs.Prelude.{◌≡◌, ℕ, List, Result, Ok, Err}
 use Rattle.asm_core.specs.declared.mark.MarkKind.TheVariants.{Template}
 use Rattle.asm_core.specs.declared.piece.Piece.{Piece}
 use Rattle.asm_core.specs.declared.piece.Pieces.{Pieces}
@@ -7,6 +7,11 @@ use Rattle.asm_core.specs.declared.piece.PiecesEnd.{PiecesEnd}
 use Rattle.asm_core.specs.declared.piece.PiecesEnd.TheVariants as pieces_ends
 use Rattle.asm_core.specs.Pieces.{Scan}
 use Rattle.asm_core.specs.Pieces.Scan.{Outside as ScanOutside, Scanned as ScanScanned}
+use Rattle.asm_core.specs.Expansion.{onto_text}
+use Rattle.asm_core.specs.declared.reading.Sign.{Sign}
+use Rattle.asm_template.specs.declared.expand_end.ExpandEnd.{ExpandEnd}
+use Rattle.asm_template.specs.declared.expand_end.ExpandEnd.TheVariants as expand_ends
+use Rattle.asm_template.specs.declared.expansion.Expanded.{Expanded}
 use Rattle.asm_template.specs.declared.scan_end.ScanEnd.{ScanEnd}
 use Rattle.asm_template.specs.declared.scan_end.ScanEnd.TheVariants as scan_ends
 use Rattle.asm_template.specs.declared.template.Scanned.{Scanned}
@@ -31,3 +36,16 @@ GivesPieces (Err e) read = FailsPieces e read
 abbrev pub pieces_end : ScanEnd → PiecesEnd
 pieces_end (scan_ends.Outside mark) = pieces_ends.Outside mark
 pieces_end scan_ends.Memory = pieces_ends.Memory
+
+abbrev pub FailsText : ExpandEnd → Result (List Sign) ℕ → Type 0
+FailsText (expand_ends.NoName k) text = text ≡ Err k
+FailsText expand_ends.Memory text = Unit {0}
+
+abbrev pub GivesText : Result Expanded ExpandEnd → Result (List Sign) ℕ → Type 0
+GivesText (Ok e) text = text ≡ Ok e.text
+GivesText (Err e) text = FailsText e text
+
+-- what is there before and after a text was appended, if it exists
+abbrev pub AppendsText : List Sign → List Sign → Result (Unit {0}) ExpandEnd → Result (List Sign) ℕ → Type 0
+AppendsText before after (Ok u) text = onto_text (Ok before) text ≡ Ok after
+AppendsText before after (Err e) text = FailsText e text

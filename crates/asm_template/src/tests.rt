@@ -1,5 +1,8 @@
 use super::*;
-use asm_core::{Items, Modifier, Piece, PiecesEnd, Quoted, Span};
+use asm_core::{
+    Base, Form, Interface, Items, Modifier, OperandIface, Piece, PiecesEnd, Placement, Quoted, Reg,
+    RegSet, Role, Sign, Span, Spot,
+};
 use std::alloc::{AllocError, Global};
 use std::process::Abort;
 use std::test::Fail;
@@ -98,6 +101,96 @@ fn templates_give_their_pieces(rt: HostRuntime) -> Result<(), Fail> {
     let alloc = rt.alloc();
     for (text, wanted) in ROWS {
         let given = told(&rt, alloc, text)?;
+        assert_eq!(rt; given.as_str(), wanted, "{text}");
+    }
+    Ok(())
+}
+
+/// An operand of so many bytes; what its constraint allows doesn't matter here.
+fn operand(alloc: Global, size: u32) -> OperandIface {
+    OperandIface {
+        role: Role::In,
+        size,
+        pointer: false,
+        known: None,
+        flag: None,
+        alts: Items::new(alloc),
+    }
+}
+
+/// Operands in edx, at an address, as a number, and in esi.
+fn placed(rt: &impl Abort, alloc: Global) -> Result<(Interface, Placement), Fail> {
+    let form = Form {
+        disp: -4,
+        base: Some(Base::Reg(Reg::Ebp)),
+        index: Some((Reg::Ecx, 8)),
+    };
+    let mut spots = [Spot::Number(0); 30];
+    spots[0] = Spot::Register(Reg::Edx);
+    spots[1] = Spot::Memory(form);
+    spots[2] = Spot::Number(-7);
+    spots[3] = Spot::Register(Reg::Esi);
+    let mut operands = Items::new(alloc);
+    for size in [4, 1, 4, 4] {
+        operands.push(operand(alloc, size))?;
+    }
+    let interface = Interface {
+        operands,
+        clobbers: RegSet::EAX,
+        cc: true,
+        memory: false,
+    };
+    Ok((interface, Placement { spots, count: 4 }))
+}
+
+/// The text, and below each byte where it comes from: `.` the template, `=` the number that `%=` gives, the operand's number.
+fn told_text(alloc: Global, signs: &[Sign]) -> Result<String, AllocError> {
+    let mut text = String::new(alloc);
+    let mut origins = String::new(alloc);
+    for sign in signs {
+        text.push(char::from(sign.byte))?;
+        match sign.origin {
+            0 => origins.push('.')?,
+            255 => origins.push('=')?,
+            origin => {
+                let number = origin.saturating_sub(1);
+                write!(origins, "{number}")?;
+            }
+        }
+    }
+    format!(in alloc; "{text}\n{origins}")
+}
+
+/// What a template with those operands prints.
+fn told_expansion(rt: &impl Abort, alloc: Global, text: &str) -> Result<String, Fail> {
+    let template = template(rt, alloc, text)?;
+    assert!(rt; template.at.len() == template.bytes.len());
+    let names = vec![in alloc; None, None, None, None]?;
+    let pieces = pieces(alloc, &template, &names)?;
+    let (interface, placement) = placed(rt, alloc)?;
+    match expand(alloc, pieces.list.as_slice(), &interface, &placement, 12) {
+        Ok(expanded) => Ok(told_text(alloc, expanded.text.as_slice())?),
+        Err(ExpandEnd::NoName(k)) => Ok(format!(in alloc; "no name of {k}")?),
+        Err(ExpandEnd::Memory) => Err(AllocError)?,
+    }
+}
+
+/// Templates with what they print (GCC manual, "x86 Operand Modifiers").
+const EXPANSIONS: [(&str, &str); 4] = [
+    (
+        "movb %b0,%1",
+        "movb %dl,-4(%ebp,%ecx,8)\n.....000.111111111111111",
+    ),
+    ("addw $%c2,%w0 #%h3", "addw $-7,%dx #?\n......22.000..3"),
+    (".L%=: jmp .L%=", ".L12: jmp .L12\n..==........=="),
+    ("incb %h3", "no name of 3"),
+];
+
+#[test]
+fn templates_are_printed(rt: HostRuntime) -> Result<(), Fail> {
+    let alloc = rt.alloc();
+    for (text, wanted) in EXPANSIONS {
+        let given = told_expansion(&rt, alloc, text)?;
         assert_eq!(rt; given.as_str(), wanted, "{text}");
     }
     Ok(())

@@ -1,34 +1,9 @@
 //! What a hole stands for under a shape.
 
 ghost use Rattle.std.specs.Prelude.{◌≡◌};
-ghost use Rattle.asm_core.specs.Reading.Facts.{disp_of, is_byte_slice, is_fixed_cl, leaf_of, memory_leaf, number_leaf, place_of, register_leaf, size_slice, slice_of};
+ghost use Rattle.asm_core.specs.Reading.Facts.{disp_of, is_byte_slice, is_fixed_cl, leaf_of, memory_leaf, number_leaf, place_of, register_leaf};
 
 use asm_core::{Disp, Kind, Leaf, Modifier, OperandFacts, Place, Reg, Slice};
-
-/// `al`, `ax` or `eax` by the size in bytes.
-fn size_slice(size: u32) -> Slice
-    ensures { result ≡ size_slice size }
-{
-    match size {
-        1 => Slice::Low8,
-        2 => Slice::Low16,
-        _ => Slice::All,
-    }
-}
-
-/// The part of a register that the modifier names; none with `c`.
-fn slice_of(size: u32, modifier: Modifier) -> Option<Slice>
-    ensures { result ≡ slice_of size modifier }
-{
-    match modifier {
-        Modifier::Plain => Some(size_slice(size)),
-        Modifier::B => Some(Slice::Low8),
-        Modifier::W => Some(Slice::Low16),
-        Modifier::K => Some(Slice::All),
-        Modifier::H => Some(Slice::High8),
-        Modifier::C => None,
-    }
-}
 
 fn is_byte_slice(slice: Slice) -> bool
     ensures { result ≡ is_byte_slice slice }
@@ -102,7 +77,7 @@ pub fn leaf_of(fact: Option<OperandFacts>, modifier: Modifier) -> Leaf
         return Leaf::Nameless;
     };
     match fact.kind {
-        Kind::Register => register_leaf(fact, slice_of(fact.size, modifier)),
+        Kind::Register => register_leaf(fact, modifier.slice(fact.size)),
         Kind::Number => number_leaf(fact, modifier),
         Kind::Memory => memory_leaf(fact, modifier),
     }

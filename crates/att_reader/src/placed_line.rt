@@ -7,16 +7,6 @@ ghost use Rattle.asm_core.specs.Reading.Text.{address_arg, base_arg, index_arg, 
 
 use asm_core::{Arg, Base, Disp, Form, Inst, InstArg, Place, Placement, Reg, Slice, Spot, Sym};
 
-/// Where operand `k` is; past the last one the number 0.
-fn spot_of(at: &Placement, k: u8) -> Spot
-    ensures { result ≡ spot_of at.now k }
-{
-    match at.spots.get(usize::from(k)) {
-        Some(spot) => *spot,
-        None => Spot::Number(0),
-    }
-}
-
 fn place_under(at: &Placement, place: Place) -> Place
     ensures { result ≡ placed_place at.now place }
 {
@@ -24,7 +14,7 @@ fn place_under(at: &Placement, place: Place) -> Place
         Place::Reg(_) => return place,
         Place::Operand(k) => k,
     };
-    match spot_of(at, k) {
+    match at.spot(k) {
         Spot::Register(register) => Place::Reg(register),
         Spot::Pair => Place::Reg(Reg::Eax),
         Spot::Memory(_) | Spot::Number(_) => place,
@@ -38,7 +28,7 @@ fn disp_under(at: &Placement, disp: Disp) -> Disp
         Disp::Number(_) => return disp,
         Disp::Hole(k) => k,
     };
-    match spot_of(at, k) {
+    match at.spot(k) {
         Spot::Number(n) => Disp::Number(n),
         Spot::Register(_) | Spot::Pair | Spot::Memory(_) => disp,
     }
@@ -65,7 +55,7 @@ fn number_arg(disp: Disp) -> Option<InstArg>
 fn memory_arg(at: &Placement, k: u8) -> Option<InstArg>
     ensures { result ≡ memory_arg k (spot_form (spot_of at.now k)) }
 {
-    match spot_of(at, k) {
+    match at.spot(k) {
         Spot::Memory(form) => Some(InstArg::Address(form, Some(k))),
         Spot::Register(_) | Spot::Pair | Spot::Number(_) => None,
     }

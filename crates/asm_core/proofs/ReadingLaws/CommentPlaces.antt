@@ -1,7 +1,7 @@
 -- Comments passed over from one element to the next.
 use Rattle.std.specs.Prelude.{Result, Ok, ℕ, ◌==◌, ◌||◌, ◌&&◌, Bool, true, false, List, [], ◌∷◌, map, if◌then◌else◌}
 use Rattle.asm_core.specs.Pieces.{piece_code}
-use Rattle.asm_core.specs.Reading.Text.{Sign}
+use Rattle.asm_core.specs.declared.reading.Sign.{Sign}
 use Rattle.asm_core.specs.Expansion.{piece_text, onto_text}
 use Rattle.asm_core.specs.declared.piece.Piece.{Piece}
 use Rattle.asm_core.specs.declared.placement.Placement.{Placement}

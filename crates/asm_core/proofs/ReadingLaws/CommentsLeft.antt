@@ -3,7 +3,8 @@ use Rattle.std.proofs.Common.{◌≡◌, ℕ, suc, ◌==◌, ◌<◌, max, List,
 use Rattle.std.specs.List.{flat_map}
 use Rattle.asm_core.specs.Pieces.{piece_code}
 use Rattle.asm_core.proofs.ReadingLaws.CommentPlaces.{Place, is_closed, opens_block, place_behind, is_comment, outside_comments}
-use Rattle.asm_core.specs.Reading.Text.{Sign, sign_code}
+use Rattle.asm_core.specs.Reading.Text.{sign_code}
+use Rattle.asm_core.specs.declared.reading.Sign.{Sign}
 use Rattle.asm_core.specs.Expansion.{operand_text, with_origin}
 use Rattle.asm_core.specs.declared.piece.Modifier.{Modifier}
 use Rattle.asm_core.specs.declared.piece.Piece.{Piece}

@@ -7,7 +7,7 @@ use Rattle.std.specs.List.{prefix_len, list_all}
 use Rattle.asm_core.specs.Reading.Cut.{is_blank, is_word, begun}
 use Rattle.asm_core.specs.Reading.Written.{register_named, number_of}
 use Rattle.asm_core.specs.Reading.Operands.{atom_code, content_len, ended, trimmed, hole_of, number_disp, disp_or, disp_in, whole_register, register_place, place_or, place_in, scale_of, scale_or, scale_in, before, address, indexed, base_in, index_in, between, enclosed, front_disp, address_at, address_of, register_operand, label_or, written_operand, hole_operand, operand_of, comma_outside, operands_in, operands_of, all_some}
-use Rattle.asm_core.specs.Reading.Line.{Reading, line_of_operands, line_at, line_of, line_read, name_len}
+use Rattle.asm_core.specs.Reading.Line.{line_of_operands, line_at, line_of, line_read, name_len}
 use Rattle.asm_core.proofs.ReadingLaws.WrittenCodes.{no_hole, cond_some, number_codes, percent_codes, NameLabels}
 use Rattle.asm_core.specs.declared.reg.Reg.{Reg}
 use Rattle.asm_core.specs.declared.reg.Slice.{Slice}
@@ -18,6 +18,7 @@ use Rattle.asm_core.specs.declared.names.NameRow.{NameRow}
 use Rattle.asm_core.specs.declared.reading.Leaf.{Leaf}
 use Rattle.asm_core.specs.declared.reading.Atom.{Atom}
 use Rattle.asm_core.specs.declared.reading.LineOperand.{LineOperand}
+use Rattle.asm_core.specs.declared.reading.Reading.{Reading}
 
 abbrev pub is_nameless : Leaf → Bool
 is_nameless Leaf.Nothing = false

@@ -7,10 +7,14 @@ use Rattle.asm_core.proofs.ReadingLaws.CutKept.{if-map, raw_map, raws_of-kept, l
 use Rattle.asm_core.proofs.ReadingLaws.OperandsPlaced.{placed_atom, placed_all, placed_operand, keeps_codes, codes-placed, trimmed-placed, operands_of-placed, all_some-placed, text_piece}
 use Rattle.asm_core.specs.Reading.Cut.{is_blank, Raw, raws_of, labels_from, instruction_count}
 use Rattle.asm_core.specs.Reading.Operands.{atom_code, trimmed, operands_of, all_some}
-use Rattle.asm_core.specs.Reading.Chosen.{class_of, Choice, choice_of, Prefixed, prefixes_fit}
-use Rattle.asm_core.specs.Reading.Line.{Defined, goal_of, Line, Reading, line_with, line_chosen, line_of_operands, line_at, line_of, name_len, place_from, piece_place, disp_arg, readings_from, readings_of, label_in, target_in, target_of, targets_from, arg_of, sym_of, inst_of_reading, labels_of, lines_with}
+use Rattle.asm_core.specs.Reading.Chosen.{class_of, choice_of, prefixes_fit}
+use Rattle.asm_core.specs.Reading.Line.{Defined, goal_of, line_with, line_chosen, line_of_operands, line_at, line_of, name_len, place_from, piece_place, disp_arg, readings_from, readings_of, label_in, target_in, target_of, targets_from, arg_of, sym_of, inst_of_reading, labels_of, lines_with}
 use Rattle.asm_core.specs.Reading.Text.{inst_arg_of, inst_arg_at, inst_of, text_inst, text_with, number_arg}
 use Rattle.asm_core.specs.Reading.Placed.{placed_disp, operand_under, operand_at, inst_under, code_under}
+use Rattle.asm_core.specs.declared.reading.Line.{Line}
+use Rattle.asm_core.specs.declared.reading.Reading.{Reading}
+use Rattle.asm_core.specs.declared.names.Choice.{Choice}
+use Rattle.asm_core.specs.declared.names.Prefixed.{Prefixed}
 use Rattle.asm_core.specs.declared.sym.Disp.{Disp}
 use Rattle.asm_core.specs.declared.piece.Piece.{Piece}
 use Rattle.asm_core.specs.declared.names.Prefix.{Prefix}

@@ -2,7 +2,8 @@
 use Rattle.std.proofs.Common.{◌≡◌, ℕ, suc, ◌&&◌, nat_lt, not, List, [], ◌∷◌, ◌++◌, map, Bool, true, false, cond, Option, None, Some, Result, Ok, Err, decimal, refl, ◌∙◌, eq-eqb}
 use Rattle.asm_core.specs.Pieces.{piece_code}
 use Rattle.asm_core.proofs.ReadingLaws.CommentPlaces.{expansion_from, Place, place_behind, is_comment, outside_comments}
-use Rattle.asm_core.specs.Reading.Text.{Sign, Run, onto_runs, runs_of}
+use Rattle.asm_core.specs.Reading.Text.{Run, onto_runs, runs_of}
+use Rattle.asm_core.specs.declared.reading.Sign.{Sign}
 use Rattle.asm_core.specs.Reading.Placed.{is_apart}
 use Rattle.asm_core.specs.Expansion.{operand_text, with_origin, hole_text, piece_text, onto_text}
 use Rattle.asm_core.proofs.ReadingLaws.CommentsLeft.{IsSome_text, text_or, piece_signs, signs_of, GiveText}

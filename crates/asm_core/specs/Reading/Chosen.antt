@@ -14,6 +14,8 @@ use Rattle.asm_core.specs.declared.names.Suffixes.{Suffixes}
 use Rattle.asm_core.specs.declared.names.Allowed.{Allowed}
 use Rattle.asm_core.specs.declared.names.Slot.{Slot}
 use Rattle.asm_core.specs.declared.names.NameRow.{NameRow}
+use Rattle.asm_core.specs.declared.names.Choice.{Choice}
+use Rattle.asm_core.specs.declared.names.Prefixed.{Prefixed}
 use Rattle.asm_core.specs.declared.reading.LineOperand.{LineOperand}
 
 -- what the table asks of an operand
@@ -176,11 +178,6 @@ op_in row name =
     let n = length (row_name row) in
     if same_name (take n name) (row_name row) then with_condition row.operation (drop n name) else None
 
-pub record Choice : Type 0 where
-  pub row : NameRow
-  pub op : Op
-  pub width : Width
-
 abbrev pub choice : NameRow → Option Op → Option Width → List Class → Option Choice
 choice row (Some op) (Some w) cs = if all_stand w row.slots cs && nat_le (count_by is_memory cs) 1 then Some (record { row = row; op = op; width = w }) else None
 choice row op w cs = None
@@ -211,11 +208,6 @@ choice_of rows name cs =
 abbrev pub lock_fits : Option ℕ → List Class → Bool
 lock_fits None cs = false
 lock_fits (Some j) cs = count_by is_memory (take 1 (drop j cs)) == 1
-
--- what prefixes make of the instruction
-pub record Prefixed : Type 0 where
-  pub repeat : Repeat
-  pub lock : Bool
 
 abbrev pub prefixed : Repeat → Bool → Option Prefixed
 prefixed repeat lock = Some (record { repeat = repeat; lock = lock })

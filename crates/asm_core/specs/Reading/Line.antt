@@ -9,7 +9,7 @@ use Rattle.asm_core.specs.Pieces.{piece_code}
 use Rattle.asm_core.specs.Reading.Cut.{is_blank, is_word, is_number_label, is_unique_label, same_name, Raw, raws_of, labels_from, instruction_count}
 use Rattle.asm_core.specs.Reading.Written.{register_named}
 use Rattle.asm_core.specs.Reading.Operands.{atom_code, trimmed, operands_of, all_some}
-use Rattle.asm_core.specs.Reading.Chosen.{class_of, Choice, choice_of, Prefixed, prefixes_fit}
+use Rattle.asm_core.specs.Reading.Chosen.{class_of, choice_of, prefixes_fit}
 use Rattle.asm_core.specs.Reading.Facts.{facts_of, atom_of}
 use Rattle.asm_core.specs.declared.reg.Reg.{Reg}
 use Rattle.asm_core.specs.declared.inst.Op.{Op}
@@ -21,8 +21,12 @@ use Rattle.asm_core.specs.declared.sym.Sym.{Sym}
 use Rattle.asm_core.specs.declared.piece.Piece.{Piece}
 use Rattle.asm_core.specs.declared.names.Prefix.{Prefix}
 use Rattle.asm_core.specs.declared.names.NameRow.{NameRow}
+use Rattle.asm_core.specs.declared.names.Choice.{Choice}
+use Rattle.asm_core.specs.declared.names.Prefixed.{Prefixed}
 use Rattle.asm_core.specs.declared.reading.Atom.{Atom}
 use Rattle.asm_core.specs.declared.reading.LineOperand.{LineOperand}
+use Rattle.asm_core.specs.declared.reading.Line.{Line}
+use Rattle.asm_core.specs.declared.reading.Reading.{Reading}
 use Rattle.asm_core.specs.declared.interface.Interface.{Interface}
 use Rattle.asm_core.specs.declared.shape.Shape.{Shape}
 use Rattle.asm_core.specs.declared.lines.Label.{Label}
@@ -61,20 +65,6 @@ goal_of labels inst text =
     if is_reference digits && ((last == 98) || (last == 102)) then Some (numbered_goal labels inst (digits_value 10 digits) (last == 98))
     else if is_unique_label text then Some (goal_in labels (λ l. same_name l.0 text))
     else None
-
--- an instruction that is read
-pub record Line : Type 0 where
-  pub op : Op
-  pub width : Width
-  pub operands : List LineOperand
-  pub repeat : Repeat
-  pub lock : Bool
-  pub place : ℕ
-
-pub data Reading : Type 0 where
-  Read : Line → Reading
-  LeftOut : Reading
-  Unread : Reading
 
 abbrev pub line_with : Choice → List LineOperand → ℕ → Option Prefixed → Reading
 line_with c os place None = Reading.Unread

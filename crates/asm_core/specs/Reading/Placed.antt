@@ -3,7 +3,8 @@ use Rattle.std.specs.Prelude.{◌≡◌, ℕ, ◌^◌, ◌<◌, ℤ, pos, negsuc
 use Rattle.std.specs.Option.{option_map}
 use Rattle.asm_core.specs.Placement.{spot_of, IsAllowed}
 use Rattle.asm_core.specs.Expansion.{expansion_of}
-use Rattle.asm_core.specs.Reading.Text.{Sign, TextCode, code_of_text, register_arg, number_arg, memory_arg, address_arg}
+use Rattle.asm_core.specs.Reading.Text.{TextCode, code_of_text, register_arg, number_arg, memory_arg, address_arg}
+use Rattle.asm_core.specs.declared.reading.Sign.{Sign}
 use Rattle.asm_core.specs.declared.reg.Reg.{Reg}
 use Rattle.asm_core.specs.declared.sym.Place.{Place}
 use Rattle.asm_core.specs.declared.sym.Disp.{Disp}

@@ -10,7 +10,9 @@ use Rattle.asm_core.specs.Reading.Cut.{Raw, raws_of, instruction_count}
 use Rattle.asm_core.specs.Reading.Written.{register_named, number_of}
 use Rattle.asm_core.specs.Reading.Operands.{atom_code}
 use Rattle.asm_core.specs.Reading.Facts.{facts_of, is_fixed_cl}
-use Rattle.asm_core.specs.Reading.Line.{Reading, Line, line_read, readings_of, labels_of, targets_from}
+use Rattle.asm_core.specs.Reading.Line.{line_read, readings_of, labels_of, targets_from}
+use Rattle.asm_core.specs.declared.reading.Line.{Line}
+use Rattle.asm_core.specs.declared.reading.Reading.{Reading}
 use Rattle.asm_core.specs.declared.reg.Reg.{Reg}
 use Rattle.asm_core.specs.declared.reg.Slice.{Slice}
 use Rattle.asm_core.specs.declared.sym.Place.{Place}
@@ -26,17 +28,13 @@ use Rattle.asm_core.specs.declared.interface.Interface.{Interface}
 use Rattle.asm_core.specs.declared.inst.InstArg.{InstArg}
 use Rattle.asm_core.specs.declared.inst.Inst.{Inst}
 use Rattle.asm_core.specs.declared.reading.OperandFacts.{OperandFacts}
+use Rattle.asm_core.specs.declared.reading.Sign.{Sign}
 use Rattle.asm_core.specs.declared.reading.Leaf.{Leaf}
 use Rattle.asm_core.specs.declared.reading.Leaf.TheVariants as leaves
 use Rattle.asm_core.specs.declared.reading.Atom.{Atom}
 use Rattle.asm_core.specs.declared.reading.LineOperand.{LineOperand}
 use Rattle.asm_core.specs.declared.lines.Label.{Label}
 use Rattle.asm_core.specs.declared.lines.JumpTarget.{JumpTarget}
-
--- a byte with where it comes from: 0 the template, k + 1 operand k, 255 the number that `%=` gave
-pub record Sign : Type 0 where
-  pub byte : ℕ
-  pub origin : ℕ
 
 -- a byte of the template, or a run of bytes that an operand or `%=` gave
 pub data Run : Type 0 where

@@ -38,7 +38,7 @@ magnitude_of text =
     else numeral_value 8 (drop 1 text))
     else numeral_value 10 text
 
-abbrev negative : ℕ → ℤ
+abbrev pub negative : ℕ → ℤ
 negative zero = pos 0
 negative (suc n) = negsuc n
 
