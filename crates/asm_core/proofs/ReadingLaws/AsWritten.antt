@@ -1,23 +1,28 @@
 -- What an operand prints is read as the same bytes of a template would be, but for two things that only the operand tells: whether
 -- `%cl` may be a count, and the number of a memory operand. (As a base `%esp` is read where an operand prints it alone.)
-use Rattle.std.proofs.Common.{◌≡◌, ℕ, zero, suc, ◌+◌, ◌==◌, ◌&&◌, ◌≤◌, ◌<◌, nat_le, nat_lt, not, max, ℤ, pos, negsuc, List, [], ◌∷◌, ◌++◌, length, map, drop, Bool, true, false, Option, None, Some, refl, ap, sym, ◌∙◌, slice_index, decimal, arith}
-use Rattle.std.proofs.lemmas.Bool.{ltb-false, le-ltb}
+use Rattle.std.proofs.Common.{◌≡◌, ◌⊎◌, inl, inr, ℕ, zero, suc, ◌+◌, ◌-◌, ◌==◌, ◌&&◌, ◌≤◌, ◌<◌, nat_le, nat_lt, max, ℤ, pos, negsuc, List, [], ◌∷◌, length, map, take, Bool, true, false, Option, None, Some, refl, sym, ◌∙◌, slice_index, decimal, arith}
+use Rattle.std.proofs.lemmas.Bool.{ltb-false, le-ltb, ne_eqb}
 use Rattle.std.proofs.lemmas.Bool.Decides.{nat_tests}
 use Rattle.std.proofs.lemmas.List.{length-map}
+use Rattle.std.proofs.lemmas.Int.{ints}
+use Rattle.std.proofs.lemmas.Fmt.{decimal_is_IsNumeral}
+use Rattle.std.proofs.lemmas.Str.Parse.{digit_from_value}
+use Rattle.std.specs.Int.{IsInRange}
+use Rattle.std.specs.Str.Parse.{AllDigits}
 use Rattle.std.specs.Fmt.{signed_decimal}
 use Rattle.std.specs.Option.{option_map, option_and_then}
-use Rattle.std.specs.List.{prefix_len, list_all}
+use Rattle.std.specs.List.{list_all}
 use Rattle.asm_core.specs.Reading.Written.{register_named, number_of}
 use Rattle.asm_core.specs.Reading.Operands.{atom_code, hole_of, disp_in, before, address_at, address_of, written_operand, operand_of}
 use Rattle.asm_core.specs.Reading.Text.{atom_with, read_register, read_number, inst_arg_of}
+use Rattle.asm_core.specs.Reading.Line.{Defined, is_reference, goal_of}
 use Rattle.asm_core.specs.Reading.Placed.{IsWordNumber}
-use Rattle.asm_core.specs.Expansion.{name_of, register_text, number_text}
+use Rattle.asm_core.specs.Expansion.{name_of}
 use Rattle.asm_core.proofs.ReadingLaws.ReadBack.{register_back, number_back, signed_first, lacks, lacks_case, signed_lacks}
 use Rattle.asm_core.specs.declared.reg.Reg.{Reg}
 use Rattle.asm_core.specs.declared.reg.Reg.TheVariants.{Eax, Ebx, Ecx, Edx, Esi, Edi, Ebp}
 use Rattle.asm_core.specs.declared.reg.Slice.{Slice}
 use Rattle.asm_core.specs.declared.reg.Slice.TheVariants.{Low8, High8, Low16, All}
-use Rattle.asm_core.specs.declared.sym.Place.{Place}
 use Rattle.asm_core.specs.declared.sym.Disp.{Disp}
 use Rattle.asm_core.specs.declared.piece.Modifier.{Modifier}
 use Rattle.asm_core.specs.declared.piece.Piece.{Piece}
@@ -203,3 +208,46 @@ bare_given goal count k fact z word = rw (signed_first z word, number_back z wor
 pub bare_as_written : (goal : List ℕ → Option (Option ℕ)) (count k : ℕ) (fact : OperandFacts) (z : ℤ) → IsWordNumber z → goal (signed_decimal z) ≡ None
     → said goal count (given k (read_number fact (signed_decimal z))) ≡ said goal count (written (signed_decimal z))
 bare_as_written goal count k fact z word none = bare_given goal count k fact z word ∙ sym (bare_written goal count z word none)
+
+-- ---- what no label is
+
+digits_pass : (c : ℕ) → ((d : ℕ) → IsInRange 48 57 d → (d == c) ≡ false) → (ds : List ℕ) → AllDigits 10 ds → lacks c ds ≡ true
+digits_pass c other [] h = refl
+digits_pass c other (d ∷ ds) h = rw (other d (digit_from_value d h.0), digits_pass c other ds h.1) refl
+
+-- a number has digits and `-` alone
+signed_pass : (c : ℕ) → (45 == c) ≡ false → ((d : ℕ) → IsInRange 48 57 d → (d == c) ≡ false) → (z : ℤ) → IsWordNumber z → lacks c (signed_decimal z) ≡ true
+signed_pass c dash other (pos n) word =
+    let high : n ≤ 4294967295 = omega (arith, ints, word.high) in
+    let h = decimal_is_IsNumeral n (omega arith) in
+    digits_pass c other (decimal n) h.0.1
+signed_pass c dash other (negsuc n) word =
+    let high : suc n ≤ 2147483648 = omega (arith, ints, word.low) in
+    let h = decimal_is_IsNumeral (suc n) (omega arith) in
+    rw (dash, digits_pass c other (decimal (suc n)) h.0.1) refl
+
+at_lacks : (c n : ℕ) (text : List ℕ) → (0 == c) ≡ false → lacks c text ≡ true → (slice_index text n == c) ≡ false
+at_lacks c n [] other h = other
+at_lacks c zero (x ∷ xs) other h = (lacks_case (x == c) (lacks c xs) h).0
+at_lacks c (suc n) (x ∷ xs) other h = at_lacks c n xs other (lacks_case (x == c) (lacks c xs) h).1
+
+digit_apart : (c : ℕ) → (c < 48) ⊎ (57 < c) → (d : ℕ) → IsInRange 48 57 d → (d == c) ≡ false
+digit_apart c (inl low) d range = ne_eqb d c (λ e. absurd (omega (arith, e, range)))
+digit_apart c (inr high) d range = ne_eqb d c (λ e. absurd (omega (arith, e, range)))
+
+no_reference : (b : Bool) → (b && false) ≡ false
+no_reference true = refl
+no_reference false = refl
+
+-- a text without `b`, `f` and `.` names no label
+no_label_text : (labels : List Defined) (inst : ℕ) (text : List ℕ) → lacks 98 text ≡ true → lacks 102 text ≡ true → lacks 46 text ≡ true → goal_of labels inst text ≡ None
+unfolding goal_of
+no_label_text labels inst text b f dot =
+    let n = length text - 1 in
+    rw (at_lacks 98 n text refl b, at_lacks 102 n text refl f, no_reference (is_reference (take n text)), at_lacks 46 0 text refl dot) refl
+
+-- a number is no label
+pub number_no_label : (labels : List Defined) (inst : ℕ) (z : ℤ) → IsWordNumber z → goal_of labels inst (signed_decimal z) ≡ None
+number_no_label labels inst z word =
+    no_label_text labels inst (signed_decimal z) (signed_pass 98 refl (digit_apart 98 (inr (omega arith))) z word) (signed_pass 102 refl (digit_apart 102 (inr (omega arith))) z word)
+    (signed_pass 46 refl (digit_apart 46 (inl (omega arith))) z word)
