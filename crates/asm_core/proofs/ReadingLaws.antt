@@ -1,4 +1,5 @@
 -- Reading a template with holes and then placing is reading its text.
+pub mod AsWritten
 pub mod BodiesApart
 pub mod BodiesRead
 pub mod CommentPlaces

@@ -8,8 +8,6 @@ use Rattle.asm_core.specs.Reading.Operands.{atom_code}
 use Rattle.asm_core.specs.Reading.Facts.{facts_of, atom_of}
 use Rattle.asm_core.specs.Reading.Line.{Defined, goal_of, line_of, line_read, place_from, readings_from, template_raws}
 use Rattle.asm_core.specs.Reading.Text.{runs_of, atom_of_run}
-use Rattle.asm_core.specs.declared.reading.Reading.{Reading}
-use Rattle.asm_core.specs.declared.reading.Sign.{Sign}
 use Rattle.asm_core.specs.Reading.Placed.{is_apart}
 use Rattle.asm_core.specs.Reading.UnderShape.{IsLettered, body_text, body_reading, statements_of, instructions_of}
 use Rattle.asm_core.proofs.ReadingLaws.CommentsLeft.{signs_of}
@@ -25,6 +23,8 @@ use Rattle.asm_core.specs.declared.placement.Placement.{Placement}
 use Rattle.asm_core.specs.declared.shape.Shape.{Shape}
 use Rattle.asm_core.specs.declared.interface.Interface.{Interface}
 use Rattle.asm_core.specs.declared.reading.Atom.{Atom}
+use Rattle.asm_core.specs.declared.reading.Reading.{Reading}
+use Rattle.asm_core.specs.declared.reading.Sign.{Sign}
 
 module _ (i : Interface) (p : Placement) (unique : ℕ) where
   body-that : (body : List Piece) → IsThat i p unique (body_text i p unique body) (signs_of i p unique body)

@@ -19,6 +19,7 @@ use Rattle.asm_core.specs.declared.names.NameRow.{NameRow}
 use Rattle.asm_core.specs.declared.reading.Leaf.{Leaf}
 use Rattle.asm_core.specs.declared.reading.Atom.{Atom}
 use Rattle.asm_core.specs.declared.reading.LineOperand.{LineOperand}
+use Rattle.asm_core.specs.declared.reading.Reading.{Reading}
 
 abbrev pub is_nameless : Leaf → Bool
 is_nameless Leaf.Nothing = false

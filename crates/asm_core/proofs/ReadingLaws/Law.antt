@@ -16,8 +16,8 @@ use Rattle.asm_core.specs.Reading.Operands.{atom_code}
 use Rattle.asm_core.specs.Reading.Facts.{facts_of, slice_of, atom_of}
 use Rattle.asm_core.specs.Reading.Line.{readings_of, lines_with, template_raws, lines_under}
 use Rattle.asm_core.specs.Reading.Text.{sign_code, runs_of, atom_with, atom_of_run, text_raws, code_of_text}
-use Rattle.asm_core.specs.declared.reading.Sign.{Sign}
 use Rattle.asm_core.specs.Reading.UnderShape.{LettersFit, IsLettered}
+use Rattle.asm_core.specs.declared.reading.Sign.{Sign}
 use Rattle.asm_core.specs.Reading.Placed.{is_apart, code_under, ReadsWhole}
 use Rattle.asm_core.specs.Expansion.{name_of, register_text, number_text, registers_text, disp_text, form_text, memory_text, printed, operand_text, expansion_of}
 use Rattle.asm_core.proofs.ReadingLaws.CommentsLeft.{IsSome_text, text_or, GiveText, outside-signs}

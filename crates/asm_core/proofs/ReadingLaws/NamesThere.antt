@@ -11,7 +11,6 @@ use Rattle.asm_core.specs.Placement.{spot_of, HasOperand, tie_root}
 use Rattle.asm_core.specs.WellFormed.{IsInterface}
 use Rattle.asm_core.specs.Expansion.{name_of, register_text, printed, operand_text, with_origin, hole_text, piece_text, expansion_with}
 use Rattle.asm_core.specs.Reading.Facts.{allows_byte_names, fixed_register, facts_from, alternative_at, facts_with, facts_of, slice_of, is_byte_slice, register_leaf, number_leaf, memory_leaf, leaf_by, leaf_of, atom_of}
-use Rattle.asm_core.specs.declared.reading.Sign.{Sign}
 use Rattle.asm_core.specs.Reading.UnderShape.{LettersFit, IsLettered, body_text, HasNames}
 use Rattle.asm_core.proofs.ReadingLaws.HolesNamed.{is_nameless, is_named, are_named}
 use Rattle.asm_core.proofs.ReadingLaws.OperandsBack.{root_is, root_untied}
@@ -30,6 +29,7 @@ use Rattle.asm_core.specs.declared.interface.AltIface.{AltIface}
 use Rattle.asm_core.specs.declared.interface.OperandIface.{OperandIface}
 use Rattle.asm_core.specs.declared.interface.Interface.{Interface}
 use Rattle.asm_core.specs.declared.reading.OperandFacts.{OperandFacts}
+use Rattle.asm_core.specs.declared.reading.Sign.{Sign}
 
 -- something is there
 abbrev IsThere : {A : Type 0} → Option A → Type 0

@@ -37,20 +37,20 @@ use Rattle.asm_core.specs.declared.reading.OperandFacts.{OperandFacts}
 use Rattle.asm_core.specs.declared.reading.Leaf.{Leaf}
 
 -- the one register, where there is one, is that
-abbrev IsFixed : Option Reg → Reg → Type 0
+abbrev pub IsFixed : Option Reg → Reg → Type 0
 IsFixed None r = Unit {0}
 IsFixed (Some q) r = q ≡ r
 
 -- a register with a name for its byte is one of those that the letters allow
-abbrev HasByteName : Bool → Reg → Type 0
+abbrev pub HasByteName : Bool → Reg → Type 0
 HasByteName known r = (s : Slice) (name : List ℕ) → is_byte_slice s ≡ true → name_of r s ≡ Some name → known ≡ true
 
-abbrev IsKnown : Option ℤ → ℤ → Type 0
+abbrev pub IsKnown : Option ℤ → ℤ → Type 0
 IsKnown None n = Unit {0}
 IsKnown (Some m) n = m ≡ n
 
 -- what the facts say of where the operand is
-abbrev FitsFacts : OperandFacts → Kind → Spot → Type 0
+abbrev pub FitsFacts : OperandFacts → Kind → Spot → Type 0
 FitsFacts fact Kind.Register (Spot.Register r) = IsFixed fact.fixed r × HasByteName fact.has_byte_names r
 FitsFacts fact Kind.Register Spot.Pair = IsFixed fact.fixed Eax × HasByteName fact.has_byte_names Eax
 FitsFacts fact Kind.Number (Spot.Number n) = IsWordNumber n × IsKnown fact.known n
@@ -344,10 +344,10 @@ module _ (i : Interface) (s : Shape) where
     root_untied = by_alternative (slice_get o.alts s.alternative) refl
 
   -- the facts of an operand hold where it may be
-  record Hold (p : Placement) (k : ℕ) (o : OperandIface) (fact : OperandFacts) : Type 0 where
-    size : fact.size ≡ o.size
-    spot : spot_of p k ≡ spot_of p fact.root
-    fits : FitsFacts fact fact.kind (spot_of p fact.root)
+  pub record Hold (p : Placement) (k : ℕ) (o : OperandIface) (fact : OperandFacts) : Type 0 where
+    pub size : fact.size ≡ o.size
+    pub spot : spot_of p k ≡ spot_of p fact.root
+    pub fits : FitsFacts fact fact.kind (spot_of p fact.root)
 
   module _ (is : IsInterface i) (p : Placement) (lettered : IsLettered i s p) (k : ℕ) (o : OperandIface) (there : slice_get i.operands k ≡ Some o) where
     hold_from : (ro : Option OperandIface) (ra : Option AltIface) (kind : Option Kind) (fact : OperandFacts)
@@ -363,7 +363,7 @@ module _ (i : Interface) (s : Shape) where
         let fits : LettersFit ro alt kind (spot_of p root) = lettered.fits root ro alt kind (record { is_operand = eo; is_alternative = ea; is_kind = ek }) (root_untied is k o there ro alt eo ea) in
         subst (λ f. Hold p k o f) same (record { size = refl; spot = lettered.ties k; fits = fits_facts ro alt kind (spot_of p root) o.size root has fits })
 
-    facts_hold : (fact : OperandFacts) → facts_of i s k ≡ Some fact → Hold p k o fact
+    pub facts_hold : (fact : OperandFacts) → facts_of i s k ≡ Some fact → Hold p k o fact
     unfolding facts_of
     facts_hold fact e =
         hold_from (slice_get i.operands (tie_root i s k)) (alternative_at (slice_get i.operands (tie_root i s k)) s.alternative) (slice_get s.kinds (tie_root i s k)) fact refl refl refl

@@ -73,7 +73,7 @@ magnitude_back n some small =
     let first = first_decimal n some small in
     rw (ne_eqb (slice_index (decimal n) 0) 48 (λ e. absurd (omega (arith, e)))) (numeral_back n small)
 
-digit_first : (n : ℕ) (c : ℕ) → 0 < n → n < 2 ^ 64 → c < 48 → (slice_index (decimal n) 0 == c) ≡ false
+pub digit_first : (n : ℕ) (c : ℕ) → 0 < n → n < 2 ^ 64 → c < 48 → (slice_index (decimal n) 0 == c) ≡ false
 digit_first n c some small low = let first = first_decimal n some small in ne_eqb (slice_index (decimal n) 0) c (λ e. absurd (omega (arith, e)))
 
 below : (n limit : ℕ) → n ≤ limit → not_above (Some n) limit ≡ Some n
@@ -99,11 +99,11 @@ number_back (negsuc n) word =
     rw (magnitude_back (suc n) some small, le-leb (suc n) 2147483648 low) refl
 
 -- the byte does not occur
-abbrev lacks : ℕ → List ℕ → Bool
+abbrev pub lacks : ℕ → List ℕ → Bool
 lacks c [] = true
 lacks c (x ∷ xs) = not (x == c) && lacks c xs
 
-lacks_case : (b : Bool) (rest : Bool) → (not b && rest) ≡ true → (b ≡ false) × (rest ≡ true)
+pub lacks_case : (b : Bool) (rest : Bool) → (not b && rest) ≡ true → (b ≡ false) × (rest ≡ true)
 lacks_case true rest h = absurd (cc)
 lacks_case false rest h = (refl, h)
 
@@ -115,7 +115,7 @@ split_at : (c : ℕ) (xs ys : List ℕ) → lacks c xs ≡ true → slice_split 
 split_at c [] ys h = rw (eq-eqb c c refl) refl
 split_at c (x ∷ xs) ys h = let parts = lacks_case (x == c) (lacks c xs) h in rw (parts.0, split_at c xs ys parts.1) refl
 
-lacks-append : (c : ℕ) (xs ys : List ℕ) → lacks c xs ≡ true → lacks c ys ≡ true → lacks c (xs ++ ys) ≡ true
+pub lacks-append : (c : ℕ) (xs ys : List ℕ) → lacks c xs ≡ true → lacks c ys ≡ true → lacks c (xs ++ ys) ≡ true
 lacks-append c [] ys hx hy = hy
 lacks-append c (x ∷ xs) ys hx hy = let parts = lacks_case (x == c) (lacks c xs) hx in rw (parts.0, lacks-append c xs ys parts.1 hy) refl
 
@@ -125,32 +125,32 @@ digits_lack c low (d ∷ ds) h =
     let range = digit_from_value d h.0 in
     rw (ne_eqb d c (λ e. absurd (omega (arith, e, range))), digits_lack c low ds h.1) refl
 
-decimal_lacks : (c n : ℕ) → c < 45 → n < 2 ^ 64 → lacks c (decimal n) ≡ true
+pub decimal_lacks : (c n : ℕ) → c < 45 → n < 2 ^ 64 → lacks c (decimal n) ≡ true
 decimal_lacks c n low small = let h = decimal_is_IsNumeral n small in digits_lack c low (decimal n) h.0.1
 
-signed_lacks : (c : ℕ) (z : ℤ) → c < 45 → IsWordNumber z → lacks c (signed_decimal z) ≡ true
+pub signed_lacks : (c : ℕ) (z : ℤ) → c < 45 → IsWordNumber z → lacks c (signed_decimal z) ≡ true
 signed_lacks c (pos n) low word = let high : n ≤ 4294967295 = omega (arith, ints, word.high) in decimal_lacks c n low (omega arith)
 signed_lacks c (negsuc n) low word =
     let high : suc n ≤ 2147483648 = omega (arith, ints, word.low) in
     rw (ne_eqb 45 c (λ e. absurd (omega (arith, e))), decimal_lacks c (suc n) low (omega arith)) refl
 
-disp_lacks : (c : ℕ) (z : ℤ) → c < 45 → IsWordNumber z → lacks c (disp_text z) ≡ true
+pub disp_lacks : (c : ℕ) (z : ℤ) → c < 45 → IsWordNumber z → lacks c (disp_text z) ≡ true
 disp_lacks c (pos zero) low word = refl
 disp_lacks c (pos (suc n)) low word = signed_lacks c (pos (suc n)) low word
 disp_lacks c (negsuc n) low word = signed_lacks c (negsuc n) low word
 
-disp_back : (z : ℤ) → IsWordNumber z → unwrap_or (number_of (disp_text z)) (pos 0) ≡ z
+pub disp_back : (z : ℤ) → IsWordNumber z → unwrap_or (number_of (disp_text z)) (pos 0) ≡ z
 disp_back (pos zero) word = unfold number_of in unfold magnitude_of in refl
 disp_back (pos (suc n)) word = rw (number_back (pos (suc n)) word) refl
 disp_back (negsuc n) word = rw (number_back (negsuc n) word) refl
 
 -- `(`, `)` and `,`
-data Cutter : Type 0 where
+pub data Cutter : Type 0 where
   Open : Cutter
   Close : Cutter
   Comma : Cutter
 
-abbrev cutter_code : Cutter → ℕ
+abbrev pub cutter_code : Cutter → ℕ
 cutter_code Cutter.Open = 40
 cutter_code Cutter.Close = 41
 cutter_code Cutter.Comma = 44
@@ -160,7 +160,7 @@ cutter_low Cutter.Open = omega arith
 cutter_low Cutter.Close = omega arith
 cutter_low Cutter.Comma = omega arith
 
-register_lacks : (c : Cutter) (r : Reg) → lacks (cutter_code c) (37 ∷ reg_name r) ≡ true
+pub register_lacks : (c : Cutter) (r : Reg) → lacks (cutter_code c) (37 ∷ reg_name r) ≡ true
 register_lacks Cutter.Open Eax = refl
 register_lacks Cutter.Open Ebx = refl
 register_lacks Cutter.Open Ecx = refl
@@ -183,7 +183,7 @@ register_lacks Cutter.Comma Esi = refl
 register_lacks Cutter.Comma Edi = refl
 register_lacks Cutter.Comma Ebp = refl
 
-base_lacks : (c : Cutter) (b : Base) → lacks (cutter_code c) (base_text b) ≡ true
+pub base_lacks : (c : Cutter) (b : Base) → lacks (cutter_code c) (base_text b) ≡ true
 base_lacks Cutter.Open Base.Esp = refl
 base_lacks Cutter.Close Base.Esp = refl
 base_lacks Cutter.Comma Base.Esp = refl
@@ -200,24 +200,24 @@ base_back (Base.Reg Edi) = refl
 base_back (Base.Reg Ebp) = refl
 
 -- 1, 2, 4 or 8
-abbrev IsScale : ℕ → Type 0
+abbrev pub IsScale : ℕ → Type 0
 IsScale n = IsMember n (1 ∷ 2 ∷ 4 ∷ 8 ∷ [])
 
-scale_word : (n : ℕ) → IsScale n → IsWordNumber (pos n)
+pub scale_word : (n : ℕ) → IsScale n → IsWordNumber (pos n)
 scale_word n (inl e) = record { low = omega (arith, ints); high = omega (arith, ints, e) }
 scale_word n (inr (inl e)) = record { low = omega (arith, ints); high = omega (arith, ints, e) }
 scale_word n (inr (inr (inl e))) = record { low = omega (arith, ints); high = omega (arith, ints, e) }
 scale_word n (inr (inr (inr (inl e)))) = record { low = omega (arith, ints); high = omega (arith, ints, e) }
 scale_word n (inr (inr (inr (inr h)))) = absurd h
 
-scale_small : (n : ℕ) → IsScale n → n < 2 ^ 64
+pub scale_small : (n : ℕ) → IsScale n → n < 2 ^ 64
 scale_small n (inl e) = omega (arith, e)
 scale_small n (inr (inl e)) = omega (arith, e)
 scale_small n (inr (inr (inl e))) = omega (arith, e)
 scale_small n (inr (inr (inr (inl e)))) = omega (arith, e)
 scale_small n (inr (inr (inr (inr h)))) = absurd h
 
-index_lacks : (c : Cutter) (x : Reg × ℕ) → (44 == cutter_code c) ≡ false → IsScale x.1 → lacks (cutter_code c) (index_text x) ≡ true
+pub index_lacks : (c : Cutter) (x : Reg × ℕ) → (44 == cutter_code c) ≡ false → IsScale x.1 → lacks (cutter_code c) (index_text x) ≡ true
 index_lacks c x other h =
     let scale : x.1 < 2 ^ 64 = scale_small x.1 h in
     let number : lacks (cutter_code c) (44 ∷ decimal x.1) ≡ true = rw (other, decimal_lacks (cutter_code c) x.1 (cutter_low c) scale) refl in
@@ -233,7 +233,7 @@ address_back d registers word no_open no_close =
       disp_back d word,
     ) refl
 
-name_back : (r : Reg) → register_named (reg_name r) ≡ Some (r, All)
+pub name_back : (r : Reg) → register_named (reg_name r) ≡ Some (r, All)
 name_back r = register_back r All (reg_name r) refl
 
 index_back : (x : Reg × ℕ) → IsScale x.1 → index_in ((37 ∷ reg_name x.0) ∷ decimal x.1 ∷ []) ≡ Some x

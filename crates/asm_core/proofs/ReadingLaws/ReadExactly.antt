@@ -8,7 +8,6 @@ use Rattle.asm_core.specs.WellFormed.{IsInterface}
 use Rattle.asm_core.specs.Pieces.{piece_code, ArePieces}
 use Rattle.asm_core.specs.Reading.Cut.{Raw, labels_from, instruction_count}
 use Rattle.asm_core.specs.Reading.Facts.{facts_of, atom_of}
-use Rattle.asm_core.specs.declared.reading.Reading.{Reading}
 use Rattle.asm_core.specs.Reading.Line.{goal_of, line_of, line_read, place_from, readings_from, readings_of, inst_of_reading, lines_with, lines_under}
 use Rattle.asm_core.specs.Reading.Text.{text_inst}
 use Rattle.asm_core.specs.Reading.Placed.{is_apart, inst_under}
@@ -30,6 +29,7 @@ use Rattle.asm_core.specs.declared.interface.Interface.{Interface}
 use Rattle.asm_core.specs.declared.reading.Atom.{Atom}
 use Rattle.asm_core.specs.declared.lines.Lines.{Lines}
 use Rattle.asm_core.specs.declared.lines.LinesEnd.{LinesEnd}
+use Rattle.asm_core.specs.declared.reading.Reading.{Reading}
 
 inst_there : (count : ℕ) (r : Reading) → is_some (inst_of_reading count r) ≡ is_some (line_read r)
 inst_there count (Reading.Read l) = refl

@@ -12,8 +12,6 @@ use Rattle.asm_core.specs.Reading.Cut.{Raw, raws_of, labels_from, instruction_co
 use Rattle.asm_core.specs.Reading.Facts.{facts_of}
 use Rattle.asm_core.specs.Reading.Line.{goal_of, line_of, line_read}
 use Rattle.asm_core.specs.Reading.Text.{runs_of, atom_of_run, text_inst}
-use Rattle.asm_core.specs.declared.reading.Reading.{Reading}
-use Rattle.asm_core.specs.declared.reading.Sign.{Sign}
 use Rattle.asm_core.specs.Reading.Placed.{inst_under}
 use Rattle.asm_core.specs.declared.names.Prefix.{Prefix}
 use Rattle.asm_core.specs.declared.names.NameRow.{NameRow}
@@ -27,6 +25,8 @@ use Rattle.asm_core.specs.declared.interface.OperandIface.{OperandIface}
 use Rattle.asm_core.specs.declared.interface.Interface.{Interface}
 use Rattle.asm_core.specs.declared.placement.Spot.{Spot}
 use Rattle.asm_core.specs.declared.placement.Placement.{Placement}
+use Rattle.asm_core.specs.declared.reading.Reading.{Reading}
+use Rattle.asm_core.specs.declared.reading.Sign.{Sign}
 
 -- the letters of the alternative let an operand of this kind be here
 abbrev pub LettersFit : OperandIface → AltIface → Kind → Spot → Type 0
