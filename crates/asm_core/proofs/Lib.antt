@@ -8,6 +8,7 @@ pub mod Keeping
 pub mod LastWrites
 pub mod Laws
 pub mod MachineLaws
+pub mod Moves
 pub mod PlacedLaws
 pub mod Puts
 pub mod ReadBack

@@ -1,13 +1,15 @@
 -- What holds of the steps of every row, whatever its micro-operations are.
-use Rattle.std.specs.Prelude.{◌≡◌, ◌⊎◌, ℕ, zero, suc, ◌+◌, ◌-◌, ◌*◌, ◌/◌, ◌%◌, ◌^◌, ◌<◌, ◌≤◌, List, [], ◌∷◌, drop, length, false, slice_get, slice_index, Option, None, Some}
+use Rattle.std.specs.Prelude.{◌≡◌, ◌⊎◌, ℕ, zero, suc, ◌+◌, ◌-◌, ◌*◌, ◌/◌, ◌%◌, ◌^◌, ◌==◌, ◌<◌, ◌≤◌, nat_le, nat_lt, ◌&&◌, if◌then◌else◌, List, [], ◌∷◌, drop, length, true, false, slice_get, slice_index, Option, None, Some}
 use Rattle.std.specs.Int.{bit_at}
+use Rattle.std.specs.List.{list_any}
 use Rattle.asm_core.specs.Entries.{origin_rank, input_origin, fact_in, facts_of, line_facts, names_where, is_control, known_in, write_of, writes_of}
 use Rattle.asm_core.specs.Function.{bits_of, bit}
-use Rattle.asm_core.specs.Flag.{flag_in}
-use Rattle.asm_core.specs.Machine.{IsMachine, reg_in, byte_at, layouts_of}
+use Rattle.asm_core.specs.Flag.{flag_number, flag_in}
+use Rattle.asm_core.specs.Machine.{IsMachine, reg_in, covers, byte_at, layouts_of}
 use Rattle.asm_core.specs.Memory.{modulo, address_of}
 use Rattle.asm_core.specs.MicroOps.{Stepped, first_of, count_of, sized, bytes_named, arg_at, values_of, read_in, is_over, divides, next_of, destinations_of, row_ended}
 use Rattle.asm_core.specs.Reading.Placed.{operand_under, operand_at, inst_under}
+use Rattle.asm_core.specs.Reg.{reg_number}
 use Rattle.asm_core.specs.Rows.{inst_row, line_row, row_step}
 use Rattle.asm_core.specs.declared.reg.Reg.{Reg}
 use Rattle.asm_core.specs.declared.reg.Slice.{Slice}
@@ -317,6 +319,40 @@ abbrev pub AgreesOnWrites : List MicroOp → Sym → Stand → Stand → Type 0
 AgreesOnWrites row s x y = (k o : ℕ) (w : Write) (c d : Component) → IsLast x.at s row x.before k o w c → IsLast y.at s row y.before k o w d
     → AgreesOn s.width (reads_at s x) (reads_at s y) (fact_in (line_facts row s) k).names → component_in c x.after ≡ component_in d y.after
 
+-- ---- a step as moves
+
+-- which byte of what is put at a destination a component is, 0 for the first
+abbrev pub offset_at : Destination → Component → Option ℕ
+offset_at (Destination.Register r bytes) (Component.RegisterByte q j) =
+    if reg_number r == reg_number q && (nat_le (first_of bytes) j && nat_lt j (first_of bytes + count_of Width.L bytes)) then Some (j - first_of bytes) else None
+offset_at (Destination.Memory a n) (Component.MemoryByte x) = if nat_lt ((x + 2 ^ 32 - a % 2 ^ 32) % 2 ^ 32) n then Some ((x + 2 ^ 32 - a % 2 ^ 32) % 2 ^ 32) else None
+offset_at (Destination.Flag f) (Component.FlagBit g) = if flag_number f == flag_number g then Some 0 else None
+offset_at (Destination.Push n) (Component.ScratchByte j) = if nat_le (4 * n) j && nat_lt j (4 * n + 4) then Some (j - 4 * n) else None
+offset_at destination c = None
+
+-- what a component holds after a value is put where it is byte o, or elsewhere
+abbrev pub put_at : Option ℕ → Component → ℕ → ℕ → ℕ
+put_at None c v old = old
+put_at (Some o) c v old = held c (nth_byte o v)
+
+-- the same after each value from the k-th on is put at its destination
+abbrev pub played : List Destination → ℕ → List ℕ → Component → ℕ → ℕ
+played [] k vs c old = old
+played (d ∷ ds) k vs c old = played ds (k + 1) vs c (put_at (offset_at d c) c (slice_index vs k) old)
+
+-- a flag, or a byte that the state has
+abbrev pub IsCell : Machine → Component → Type 0
+IsCell m (Component.RegisterByte r j) = Unit {0}
+IsCell m (Component.FlagBit f) = Unit {0}
+IsCell m (Component.MemoryByte a) = (a < 2 ^ 32) × (list_any (λ r. covers r a) m.ranges ≡ true)
+IsCell m (Component.ScratchByte j) = Unit {0}
+IsCell m c = ⊥
+
+-- A step that is no fault and isn't over is its moves played: values that were taken before anything was written are put, in
+-- the row's order, at places that were fixed before anything was written.
+abbrev pub PlaysMoves : List MicroOp → Inst → List ℕ → Machine → Machine → Type 0
+PlaysMoves row i vs before after = (c : Component) → IsCell before c → component_in c after ≡ played (destinations_of i before row) 0 vs c (component_in c before)
+
 -- A call that steps an instruction by a row obeys the laws, wherever the line is that the instruction comes from.
 pub record ObeysLaws (row : List MicroOp) (i : Inst) (goal choice : ℕ) (words : List ℕ) (before after : Machine) : Type 0 where
   pub changes : (p : Placement) (s : Sym) → i ≡ inst_under p s → FitsTargets p s row → ChangesOnly (IsToldByOne p before (writes_of row s)) before after
@@ -324,6 +360,8 @@ pub record ObeysLaws (row : List MicroOp) (i : Inst) (goal choice : ℕ) (words 
       → IsAfter (row_ended row i goal choice words before) after → LeavesValues p s row (values_of i.width (read_in i choice words before) row) before after
   pub copies : (p : Placement) (s : Sym) → i ≡ inst_under p s → IsMachine before → FitsTargets p s row → FitsCopies p s row → is_over row (values_of i.width (read_in i choice words before) row) ≡ false
       → IsAfter (row_ended row i goal choice words before) after → LeavesCopies p s row before after
+  pub moves : IsMachine before → is_over row (values_of i.width (read_in i choice words before) row) ≡ false → IsAfter (row_ended row i goal choice words before) after
+      → PlaysMoves row i (values_of i.width (read_in i choice words before) row) before after
 
 -- The laws of what a line names: with a row's values, and with two placements.
 pub record DecidesLine (row : List MicroOp) (s : Sym) : Type 0 where
