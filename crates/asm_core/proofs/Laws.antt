@@ -8,6 +8,7 @@ use Rattle.asm_core.specs.Rows.{IsStepOf}
 use Rattle.asm_core.specs.RowLaws.{ChangesOnly, IsToldByOne, FitsTargets, FitsCopies, IsAfter, LeavesValues, LeavesCopies, PlaysMoves, ObeysLaws, DecidesLine}
 use Rattle.asm_core.proofs.CopyLaws.{leaves_values, leaves_copies}
 use Rattle.asm_core.proofs.DecideLaws.{holds_of, agrees_on_writes}
+use Rattle.asm_core.proofs.EndLaws.{ends_alike}
 use Rattle.asm_core.proofs.FactLaws.{names_decide}
 use Rattle.asm_core.proofs.Moves.{plays_moves}
 use Rattle.asm_core.proofs.PlacedLaws.{steps_as_line}
@@ -56,5 +57,6 @@ pub decides_line : (row : List MicroOp) (s : Sym) → DecidesLine row s
 decides_line row s = record {
   names = names_decide row s.width (known_in s);
   placed = λ p h. steps_as_line p s h;
+  ends = ends_alike row (known_in s);
   writes = λ few x y done_x done_y. agrees_on_writes row s x y few done_x done_y;
 }

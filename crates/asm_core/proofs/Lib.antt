@@ -2,6 +2,7 @@ mod Examples
 pub mod BytesRead
 pub mod CopyLaws
 pub mod DecideLaws
+pub mod EndLaws
 pub mod FactLaws
 pub mod FlagLaws
 pub mod Keeping
