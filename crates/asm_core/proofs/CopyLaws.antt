@@ -52,10 +52,12 @@ module _ (w : Width) (env : Input → ℕ) where
   value_from : (row : List MicroOp) (vs : List ℕ) (k : ℕ) (op : MicroOp) → slice_get row k ≡ Some op → (us : List ℕ) × (slice_index (values_from w env row vs) (length vs + k) ≡ op_value w env us op)
   value_from [] vs k op at = cc
   value_from (first ∷ row) vs zero op at =
-      let same : first ≡ op = cc in
-      (vs, ap (slice_index (values_from w env row (vs ++ op_value w env vs first ∷ []))) (no_more (length vs))
-      ∙ earlier_kept row (vs ++ op_value w env vs first ∷ []) (length vs) (longer (length-append vs (op_value w env vs first ∷ [])))
-      ∙ last_item vs (op_value w env vs first) ∙ ap (op_value w env vs) same)
+      let same : first ≡ op = cc in (
+        vs,
+        ap (slice_index (values_from w env row (vs ++ op_value w env vs first ∷ []))) (no_more (length vs))
+            ∙ earlier_kept row (vs ++ op_value w env vs first ∷ []) (length vs) (longer (length-append vs (op_value w env vs first ∷ [])))
+            ∙ last_item vs (op_value w env vs first) ∙ ap (op_value w env vs) same,
+      )
     where
       no_more : (n : ℕ) → n + 0 ≡ n
       no_more n = omega arith

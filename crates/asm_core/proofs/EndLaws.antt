@@ -5,7 +5,7 @@ use Rattle.asm_core.specs.Function.{bits_of}
 use Rattle.asm_core.specs.Machine.{Layout, layouts_of, reg_in}
 use Rattle.asm_core.specs.Memory.{address_of, is_open_to, lets_in, is_good_byte, is_good_access}
 use Rattle.asm_core.specs.MicroOps.{Stepped, first_of, count_of, arg_at, read_in, values_of, is_good_arg, is_good_site, is_good_input, is_good_target, is_good_op, is_over, divides, takes_outside, next_of, moved, written, ended_by}
-use Rattle.asm_core.specs.RowLaws.{Way, way_of, IsReachedAlike, Pair, SiteAlike, InputAlike, TargetAlike, AddressesAlike, IsAlike, EndsAlike}
+use Rattle.asm_core.specs.Steps.{Way, way_of, IsReachedAlike, Pair, SiteAlike, InputAlike, TargetAlike, AddressesAlike, IsAlike, EndsAlike}
 use Rattle.asm_core.proofs.FactLaws.{names_decide}
 use Rattle.asm_core.specs.declared.inst.Width.{Width}
 use Rattle.asm_core.specs.declared.inst.Inst.{Inst}

@@ -5,7 +5,8 @@ use Rattle.asm_core.specs.Machine.{IsMachine}
 use Rattle.asm_core.specs.Reading.Placed.{inst_under}
 use Rattle.asm_core.specs.Entries.{known_in, writes_of}
 use Rattle.asm_core.specs.Rows.{IsStepOf}
-use Rattle.asm_core.specs.RowLaws.{ChangesOnly, IsToldByOne, FitsTargets, FitsCopies, IsAfter, LeavesValues, LeavesCopies, PlaysMoves, ObeysLaws, DecidesLine}
+use Rattle.asm_core.specs.RowLaws.{ChangesOnly, IsToldByOne, FitsTargets, FitsCopies, LeavesValues, LeavesCopies}
+use Rattle.asm_core.specs.Steps.{IsAfter, PlaysMoves, ObeysLaws, DecidesLine}
 use Rattle.asm_core.proofs.CopyLaws.{leaves_values, leaves_copies}
 use Rattle.asm_core.proofs.DecideLaws.{holds_of, agrees_on_writes}
 use Rattle.asm_core.proofs.EndLaws.{ends_alike}

@@ -6,7 +6,8 @@ use Rattle.asm_core.specs.Reg.{reg_number}
 use Rattle.asm_core.specs.Flag.{flag_number}
 use Rattle.asm_core.specs.Machine.{IsMachine}
 use Rattle.asm_core.specs.MicroOps.{first_of, count_of, arg_at, arg_destination, destination_of, destinations_of, put, put_all, values_of, read_in, is_good_op, is_good_target, is_over, next_of, row_ended}
-use Rattle.asm_core.specs.RowLaws.{HoldsAfter, Component, component_in, IsHit, offset_at, put_at, played, IsCell, PlaysMoves}
+use Rattle.asm_core.specs.RowLaws.{HoldsAfter, Component, component_in, IsHit}
+use Rattle.asm_core.specs.Steps.{offset_at, put_at, played, IsCell, PlaysMoves}
 use Rattle.asm_core.proofs.CopyLaws.{done_holds}
 use Rattle.asm_core.proofs.LastWrites.{IsByte, Has, put_read, has_kept}
 use Rattle.asm_core.proofs.Puts.{put_keeps}
