@@ -11,4 +11,5 @@ mod Placements
 mod Readings
 mod Runs
 mod Shapes
+mod Steps
 mod Values
