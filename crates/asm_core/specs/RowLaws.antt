@@ -1,5 +1,5 @@
 -- What holds of the steps of every row, whatever its micro-operations are.
-use Rattle.std.specs.Prelude.{◌≡◌, ◌⊎◌, ℕ, zero, suc, ◌+◌, ◌-◌, ◌*◌, ◌/◌, ◌%◌, ◌^◌, ◌<◌, ◌≤◌, if◌then◌else◌, List, [], ◌∷◌, drop, length, slice_get, slice_index, Option, None, Some}
+use Rattle.std.specs.Prelude.{◌≡◌, ◌⊎◌, ℕ, zero, suc, ◌+◌, ◌-◌, ◌*◌, ◌/◌, ◌%◌, ◌^◌, ◌<◌, ◌≤◌, List, [], ◌∷◌, drop, length, slice_get, slice_index, Option, None, Some}
 use Rattle.std.specs.Int.{bit_at}
 use Rattle.asm_core.specs.Entries.{origin_rank, input_origin, fact_in, facts_of, line_facts, names_where, is_control, known_in, write_of, writes_of}
 use Rattle.asm_core.specs.Function.{bits_of, bit}

@@ -8,7 +8,6 @@ use Rattle.asm_core.specs.Memory.{address_of}
 use Rattle.asm_core.specs.MicroOps.{Stepped, first_of, count_of, arg_at, is_good_arg, values_of, read_in, is_over, destinations_of, row_ended}
 use Rattle.asm_core.specs.Reading.Placed.{inst_under}
 use Rattle.asm_core.specs.Reg.{reg_number}
-use Rattle.asm_core.specs.declared.flag.Flag.{Flag}
 use Rattle.asm_core.specs.declared.inst.Width.{Width}
 use Rattle.asm_core.specs.declared.inst.Inst.{Inst}
 use Rattle.asm_core.specs.declared.inst.InstArg.{InstArg}
