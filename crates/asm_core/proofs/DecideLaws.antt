@@ -4,7 +4,8 @@ use Rattle.asm_core.specs.Memory.{address_of}
 use Rattle.asm_core.specs.MicroOps.{Stepped, first_of, bytes_named, values_of, row_ended}
 use Rattle.asm_core.specs.Reading.Placed.{operand_under, inst_under}
 use Rattle.asm_core.specs.Entries.{known_in}
-use Rattle.asm_core.specs.RowLaws.{HoldsAfter, Component, nth_byte, operand_byte, written_byte, held, LeavesValues, IsAfter, Stand, reads_at, IsDone, AgreesOnWrites}
+use Rattle.asm_core.specs.RowLaws.{HoldsAfter, Component, nth_byte, operand_byte, written_byte, held, LeavesValues}
+use Rattle.asm_core.specs.Steps.{IsAfter, Stand, reads_at, IsDone, AgreesOnWrites}
 use Rattle.asm_core.proofs.FactLaws.{names_decide, reads_known}
 use Rattle.asm_core.proofs.CopyLaws.{leaves_values}
 use Rattle.asm_core.specs.declared.inst.InstArg.{InstArg}

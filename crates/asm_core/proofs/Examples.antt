@@ -13,4 +13,5 @@ mod Readings
 mod Rows
 mod Runs
 mod Shapes
+mod Steps
 mod Values

@@ -167,7 +167,7 @@ scratch_length l n v =
     ∙ length-set (slice_set l (4 * n) (v % 256)) (4 * n + 1) (v / 256 % 256)
     ∙ length-set l (4 * n) (v % 256)
 
-has_kept : (d : Destination) (v : ℕ) (m : Machine) (c : Component) → Has m c → Has (put d v m) c
+pub has_kept : (d : Destination) (v : ℕ) (m : Machine) (c : Component) → Has m c → Has (put d v m) c
 has_kept Destination.Nowhere v m c has = has
 has_kept (Destination.Register r bytes) v m c has =
     has_with c m (slice_set m.regs (reg_number r) (with_part bytes v (reg_in r m))) m.scratch m.ranges m.flags m.esp m.scratch_top (length-set m.regs (reg_number r) (with_part bytes v (reg_in r m))) refl (λ x. refl) has

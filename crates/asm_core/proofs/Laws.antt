@@ -5,10 +5,13 @@ use Rattle.asm_core.specs.Machine.{IsMachine}
 use Rattle.asm_core.specs.Reading.Placed.{inst_under}
 use Rattle.asm_core.specs.Entries.{known_in, writes_of}
 use Rattle.asm_core.specs.Rows.{IsStepOf}
-use Rattle.asm_core.specs.RowLaws.{ChangesOnly, IsToldByOne, FitsTargets, FitsCopies, IsAfter, LeavesValues, LeavesCopies, ObeysLaws, DecidesLine}
+use Rattle.asm_core.specs.RowLaws.{ChangesOnly, IsToldByOne, FitsTargets, FitsCopies, LeavesValues, LeavesCopies}
+use Rattle.asm_core.specs.Steps.{IsAfter, PlaysMoves, ObeysLaws, DecidesLine}
 use Rattle.asm_core.proofs.CopyLaws.{leaves_values, leaves_copies}
 use Rattle.asm_core.proofs.DecideLaws.{holds_of, agrees_on_writes}
+use Rattle.asm_core.proofs.EndLaws.{ends_alike}
 use Rattle.asm_core.proofs.FactLaws.{names_decide}
+use Rattle.asm_core.proofs.Moves.{plays_moves}
 use Rattle.asm_core.proofs.PlacedLaws.{steps_as_line}
 use Rattle.asm_core.proofs.StepLaws.{call_changes}
 use Rattle.asm_core.proofs.WriteLaws.{changes_what_is_told}
@@ -22,7 +25,12 @@ use Rattle.asm_core.specs.declared.machine.Machine.{Machine}
 -- a call that steps obeys the laws
 pub call_obeys : (row : List MicroOp) (i : Inst) (goal choice : ℕ) (words : List ℕ) (end : StepEnd) (before after : Machine) → IsStepOf end (row_ended row i goal choice words before) before after
     → ObeysLaws row i goal choice words before after
-call_obeys row i goal choice words end before after is = record { changes = changes; values = values; copies = copies }
+call_obeys row i goal choice words end before after is = record {
+  changes = changes;
+  values = values;
+  copies = copies;
+  moves = λ is_machine goes_on done. holds_of (PlaysMoves row i (values_of i.width (read_in i choice words before) row) before) (row_ended row i goal choice words before) after (plays_moves row i goal choice words before is_machine goes_on) done;
+}
   where
     changes : (p : Placement) (s : Sym) → i ≡ inst_under p s → FitsTargets p s row → ChangesOnly (IsToldByOne p before (writes_of row s)) before after
     changes p s placed fits =
@@ -50,5 +58,6 @@ pub decides_line : (row : List MicroOp) (s : Sym) → DecidesLine row s
 decides_line row s = record {
   names = names_decide row s.width (known_in s);
   placed = λ p h. steps_as_line p s h;
+  ends = ends_alike row (known_in s);
   writes = λ few x y done_x done_y. agrees_on_writes row s x y few done_x done_y;
 }

@@ -3,12 +3,14 @@ pub mod BytesRead
 pub mod CompanyLaws
 pub mod CopyLaws
 pub mod DecideLaws
+pub mod EndLaws
 pub mod FactLaws
 pub mod FlagLaws
 pub mod Keeping
 pub mod LastWrites
 pub mod Laws
 pub mod MachineLaws
+pub mod Moves
 pub mod PlacedLaws
 pub mod Puts
 pub mod ReadBack

@@ -38,7 +38,7 @@ good_at i m [] k op all at = cc
 good_at i m (first ∷ row) zero op all at = let same : first ≡ op = cc in subst (λ x. is_good_op i m x ≡ true) same (and_parts (is_good_op i m first) (list_all (is_good_op i m) row) all).0
 good_at i m (first ∷ row) (suc k) op all at = good_at i m row k op (and_parts (is_good_op i m first) (list_all (is_good_op i m) row) all).1 at
 
-good_target : (i : Inst) (m : Machine) (op : MicroOp) → is_good_op i m op ≡ true → is_good_target i m op.target ≡ true
+pub good_target : (i : Inst) (m : Machine) (op : MicroOp) → is_good_op i m op ≡ true → is_good_target i m op.target ≡ true
 good_target i m op h = (and_parts (is_good_input i m op.x && is_good_input i m op.y && is_good_input i m op.z) (is_good_target i m op.target) h).1
 
 pub good_input : (i : Inst) (m : Machine) (op : MicroOp) → is_good_op i m op ≡ true → is_good_input i m op.x ≡ true
@@ -75,7 +75,7 @@ covered_at m through store (suc n) a (suc o) good small =
     next : (a o : ℕ) → a + suc o ≡ a + 1 + o
     next a o = omega arith
 
-count_small : (w : Width) (bytes : Bytes) → count_of w bytes ≤ 8
+pub count_small : (w : Width) (bytes : Bytes) → count_of w bytes ≤ 8
 count_small Width.B Bytes.Whole = omega arith
 count_small Width.W Bytes.Whole = omega arith
 count_small Width.L Bytes.Whole = omega arith

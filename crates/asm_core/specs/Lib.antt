@@ -28,6 +28,7 @@ pub mod Rows
 pub mod Run
 pub mod Shape
 pub mod Size
+pub mod Steps
 pub mod Table
 pub mod TemplateForms
 pub mod WellFormed

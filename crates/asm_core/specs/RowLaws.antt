@@ -1,10 +1,10 @@
 -- What holds of the steps of every row, whatever its micro-operations are.
-use Rattle.std.specs.Prelude.{◌≡◌, ◌⊎◌, ℕ, zero, suc, ◌+◌, ◌-◌, ◌*◌, ◌/◌, ◌%◌, ◌^◌, ◌<◌, ◌≤◌, List, [], ◌∷◌, drop, length, false, slice_get, slice_index, Option, None, Some}
+use Rattle.std.specs.Prelude.{◌≡◌, ◌⊎◌, ℕ, zero, suc, ◌+◌, ◌-◌, ◌*◌, ◌/◌, ◌%◌, ◌^◌, ◌<◌, ◌≤◌, List, [], ◌∷◌, drop, length, slice_get, slice_index, Option, None, Some}
 use Rattle.std.specs.Int.{bit_at}
 use Rattle.asm_core.specs.Entries.{origin_rank, input_origin, fact_in, facts_of, line_facts, names_where, is_control, known_in, write_of, writes_of}
 use Rattle.asm_core.specs.Function.{bits_of, bit}
 use Rattle.asm_core.specs.Flag.{flag_in}
-use Rattle.asm_core.specs.Machine.{IsMachine, reg_in, byte_at, layouts_of}
+use Rattle.asm_core.specs.Machine.{reg_in, byte_at, layouts_of}
 use Rattle.asm_core.specs.Memory.{modulo, address_of}
 use Rattle.asm_core.specs.MicroOps.{Stepped, first_of, count_of, sized, bytes_named, arg_at, values_of, read_in, is_over, divides, next_of, destinations_of, row_ended}
 use Rattle.asm_core.specs.Reading.Placed.{operand_under, operand_at, inst_under}
@@ -282,51 +282,3 @@ LeavesValues p s row vs before after = (k o : ℕ) (w : Write) (c : Component) �
 -- a copy leaves the source's bytes as they were before, and what is set is left so
 abbrev pub LeavesCopies : Placement → Sym → List MicroOp → Machine → Machine → Type 0
 LeavesCopies p s row before after = (k o : ℕ) (w : Write) (c : Component) (n : ℕ) → IsLast p s row before k o w c → byte_by p before w.by o ≡ Some n → component_in c after ≡ held c n
-
--- ---- two steps of one line
-
--- the state after a step that is no fault
-abbrev pub IsAfter : Stepped → Machine → Type 0
-IsAfter (Stepped.Moved next) after = after ≡ next
-IsAfter (Stepped.MovedOutside next) after = after ≡ next
-IsAfter Stepped.Ended after = ⊥
-IsAfter (Stepped.Faulted fault) after = ⊥
-
--- a state in which a line stands at a placement, with what a step takes besides, and the state after the step
-pub record Stand : Type 0 where
-  pub at : Placement
-  pub before : Machine
-  pub choice : ℕ
-  pub words : List ℕ
-  pub goal : ℕ
-  pub after : Machine
-
-abbrev pub reads_at : Sym → Stand → Input → ℕ
-reads_at s x = read_in (inst_under x.at s) x.choice x.words x.before
-
--- the step of a line by that row is no fault and isn't over, on a machine that has the operands
-pub record IsDone (row : List MicroOp) (s : Sym) (x : Stand) : Type 0 where
-  pub is_machine : IsMachine x.before
-  pub fits : FitsTargets x.at s row
-  pub goes_on : is_over row (values_of s.width (reads_at s x) row) ≡ false
-  pub step : IsAfter (row_ended row (inst_under x.at s) x.goal x.choice x.words x.before) x.after
-
--- Wherever a line's operands are, be it a number here and a register or memory there, two steps that agree on what a write
--- names agree on what is written, but for bytes that a later write writes too.
-abbrev pub AgreesOnWrites : List MicroOp → Sym → Stand → Stand → Type 0
-AgreesOnWrites row s x y = (k o : ℕ) (w : Write) (c d : Component) → IsLast x.at s row x.before k o w c → IsLast y.at s row y.before k o w d
-    → AgreesOn s.width (reads_at s x) (reads_at s y) (fact_in (line_facts row s) k).names → component_in c x.after ≡ component_in d y.after
-
--- A call that steps an instruction by a row obeys the laws, wherever the line is that the instruction comes from.
-pub record ObeysLaws (row : List MicroOp) (i : Inst) (goal choice : ℕ) (words : List ℕ) (before after : Machine) : Type 0 where
-  pub changes : (p : Placement) (s : Sym) → i ≡ inst_under p s → FitsTargets p s row → ChangesOnly (IsToldByOne p before (writes_of row s)) before after
-  pub values : (p : Placement) (s : Sym) → i ≡ inst_under p s → IsMachine before → FitsTargets p s row → is_over row (values_of i.width (read_in i choice words before) row) ≡ false
-      → IsAfter (row_ended row i goal choice words before) after → LeavesValues p s row (values_of i.width (read_in i choice words before) row) before after
-  pub copies : (p : Placement) (s : Sym) → i ≡ inst_under p s → IsMachine before → FitsTargets p s row → FitsCopies p s row → is_over row (values_of i.width (read_in i choice words before) row) ≡ false
-      → IsAfter (row_ended row i goal choice words before) after → LeavesCopies p s row before after
-
--- The laws of what a line names: with a row's values, and with two placements.
-pub record DecidesLine (row : List MicroOp) (s : Sym) : Type 0 where
-  pub names : NamesDecide row s.width (known_in s)
-  pub placed : (p : Placement) → IsPlaced p s → StepsAsLine p s
-  pub writes : length s.args ≤ 3 → (x y : Stand) → IsDone row s x → IsDone row s y → AgreesOnWrites row s x y

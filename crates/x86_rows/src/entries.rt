@@ -1,7 +1,8 @@
 ghost use Rattle.std.specs.Prelude.{◌≡◌, ◌≤◌, ◌∷◌, ◌++◌, length, map, filter, slice_get};
 ghost use Rattle.std.specs.List.{filter_map};
 ghost use Rattle.asm_core.specs.Entries.{origins, source_in, has_name, sources_of, names_where, is_control, is_write, is_of_use, uses_of, reads_of, register_arg_of, pointed_arg, line_arg, first_in_name, copied, set_to, by_of, write_to_site, write_to, write_of, writes_of, write_numbers, if_named, named_of, known_in};
-ghost use Rattle.asm_core.specs.RowLaws.{DecidesLine, NamesDecide, ReadsKnown};
+ghost use Rattle.asm_core.specs.RowLaws.{NamesDecide, ReadsKnown};
+ghost use Rattle.asm_core.specs.Steps.{DecidesLine};
 ghost use Rattle.asm_core.specs.declared.placement.Placement.{Placement};
 ghost use Rattle.x86_rows.specs.Purpose.{targets_of};
 

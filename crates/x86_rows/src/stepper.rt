@@ -1,7 +1,8 @@
 ghost use Rattle.std.specs.Prelude.{◌≡◌, ◌+◌, ◌<◌, ◌≤◌, ◌^◌, ◌&&◌, length, slice_index};
 ghost use Rattle.std.specs.List.{list_all, list_any};
 ghost use Rattle.asm_core.specs.MicroOps.{input_of, op_value, values_of, read_in, is_good_op, destinations_of, put_all, any_value, is_zero, is_set, is_jump, is_stay, is_turn, is_divide, next_of, is_over, divides, takes_outside, is_outside, written, ended_by, row_ended};
-ghost use Rattle.asm_core.specs.RowLaws.{ChangesDestinations, ObeysLaws};
+ghost use Rattle.asm_core.specs.RowLaws.{ChangesDestinations};
+ghost use Rattle.asm_core.specs.Steps.{ObeysLaws};
 ghost use Rattle.asm_core.specs.Rows.{IsStepOf};
 ghost use Rattle.x86_rows.specs.Control.{kind_of, test_of};
 
