@@ -1,5 +1,6 @@
 mod Examples
 pub mod CompanyLaws
+pub mod CountLaws
 pub mod FactLaws
 pub mod FlagLaws
 pub mod Keeping
