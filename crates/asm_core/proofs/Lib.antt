@@ -2,6 +2,7 @@ mod Examples
 pub mod BytesRead
 pub mod CompanyLaws
 pub mod CopyLaws
+pub mod CountLaws
 pub mod DecideLaws
 pub mod EndLaws
 pub mod FactLaws
