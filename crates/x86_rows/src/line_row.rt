@@ -7,10 +7,10 @@ ghost use Rattle.x86_rows.specs.LineRow.{ops_of};
 
 use crate::fact::slice_number;
 use crate::memory::number;
-use crate::repeat::{MadeRow, repeated};
-use crate::terms::{CF, TO_SECOND, ZERO};
+use crate::repeat::{MadeRow, turn, zf_number};
+use crate::terms::{CF, ONE, TO_SECOND, ZERO};
 use crate::{micro, with_difference_flags, with_logic_flags};
-use asm_core::{Arg, Bytes, Inst, MicroOp, Op, Place, Repeat, Site, Sym, Target};
+use asm_core::{Arg, Input, Inst, MicroOp, Op, Place, Repeat, Sym, Target};
 use sqlite_items::at;
 
 /// The row of a line: one of the table, or one that was made for it.
@@ -37,9 +37,12 @@ pub fn prefixed<'a>(repeat: Repeat, row: &'a [MicroOp]) -> LineRow<'a>
     ensures is { ops_of result ≡ repeated repeat row.now }
     ensures few { length (ops_of result) ≤ 40 }
 {
+    let zf = Input::Earlier(zf_number(row));
     match repeat {
         Repeat::No => LineRow::Table(row),
-        _ => LineRow::Made(repeated(repeat, row)),
+        Repeat::Rep => LineRow::Made(turn(ZERO, micro!(Target::Stay, Value, ONE), row)),
+        Repeat::Repe => LineRow::Made(turn(zf, micro!(Target::Stay, Value, zf), row)),
+        Repeat::Repne => LineRow::Made(turn(zf, micro!(Target::Stay, IsZero, zf), row)),
     }
 }
 

@@ -23,12 +23,14 @@ macro_rules! micro {
     };
 }
 
+/// The operands as they are written.
 pub const FIRST: Input = Input::Read(Site::Argument(0, Bytes::Whole));
 
 pub const SECOND: Input = Input::Read(Site::Argument(1, Bytes::Whole));
 
 pub const THIRD: Input = Input::Read(Site::Argument(2, Bytes::Whole));
 
+/// The operands as targets.
 pub const TO_FIRST: Target = Target::Site(Site::Argument(0, Bytes::Whole));
 
 pub const TO_SECOND: Target = Target::Site(Site::Argument(1, Bytes::Whole));
@@ -40,6 +42,7 @@ pub const ACCUMULATOR: Input = Input::Read(Site::Register(Reg::Eax, Bytes::Whole
 
 pub const TO_ACCUMULATOR: Target = Target::Site(Site::Register(Reg::Eax, Bytes::Whole));
 
+/// All four bytes of a register.
 pub const EAX: Input = Input::Read(Site::Register(Reg::Eax, Bytes::All));
 
 pub const EBX: Input = Input::Read(Site::Register(Reg::Ebx, Bytes::All));
@@ -52,6 +55,7 @@ pub const ESI: Input = Input::Read(Site::Register(Reg::Esi, Bytes::All));
 
 pub const EDI: Input = Input::Read(Site::Register(Reg::Edi, Bytes::All));
 
+/// All four bytes of a register as a target.
 pub const TO_EAX: Target = Target::Site(Site::Register(Reg::Eax, Bytes::All));
 
 pub const TO_EBX: Target = Target::Site(Site::Register(Reg::Ebx, Bytes::All));
@@ -64,6 +68,7 @@ pub const TO_ESI: Target = Target::Site(Site::Register(Reg::Esi, Bytes::All));
 
 pub const TO_EDI: Target = Target::Site(Site::Register(Reg::Edi, Bytes::All));
 
+/// A flag.
 pub const CF: Input = Input::Read(Site::Flag(Flag::Cf));
 
 pub const PF: Input = Input::Read(Site::Flag(Flag::Pf));
@@ -78,6 +83,7 @@ pub const OF: Input = Input::Read(Site::Flag(Flag::Of));
 
 pub const DF: Input = Input::Read(Site::Flag(Flag::Df));
 
+/// A flag as a target.
 pub const TO_CF: Target = Target::Site(Site::Flag(Flag::Cf));
 
 pub const TO_PF: Target = Target::Site(Site::Flag(Flag::Pf));
@@ -92,6 +98,7 @@ pub const TO_OF: Target = Target::Site(Site::Flag(Flag::Of));
 
 pub const TO_DF: Target = Target::Site(Site::Flag(Flag::Df));
 
+/// Numbers.
 pub const ZERO: Input = Input::Number(0);
 
 pub const ONE: Input = Input::Number(1);
@@ -116,8 +123,8 @@ pub const CF_IS_1: MicroOp = micro!(TO_CF, Value, ONE);
 
 pub const OF_IS_0: MicroOp = micro!(TO_OF, Value, ZERO);
 
-/// The row's beginning, the flags but CF of the sum of three inputs, whose value is that of micro-operation number `$r`,
-/// and its end.
+/// The row's beginning, the flags but CF of the sum of three inputs, whose value is that of micro-operation number
+/// `$r`, and its end.
 #[macro_export]
 macro_rules! with_increment_flags {
     ([$($before:expr),*], ($x:expr, $y:expr, $z:expr, $r:expr), [$($after:expr),*]) => {
