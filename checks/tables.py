@@ -2,8 +2,8 @@
 """Runs the tables of checks/tables against the crates below the checker's, built without a proof.
 
 The tables say what tokens, literals, scopes, declarations, layouts, values, expressions and asm statements of short
-texts are, where asm operands may be, and how lines of templates are read, worked out by hand or by gcc; nothing is proved
-of them, so they stand in no crate. Both sizes are the same. Status 0 where all agree, else 1.
+texts are, where asm operands may be, and how lines of templates are read, worked out by hand or by gcc; nothing is
+proved of them, so they stand in no crate. Both sizes are the same. Status 0 where all agree, else 1.
 """
 import pathlib
 import subprocess
