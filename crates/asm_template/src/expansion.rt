@@ -67,7 +67,8 @@ fn append_piece(
     inside: bool,
     piece: &Piece,
 ) -> Result<(), ExpandEnd>
-    ensures { AppendsText signs.old.items signs.new.items result (piece_text placed.now.interface.now placed.now.placement.now placed.now.unique inside piece.now) }
+    ensures { AppendsText signs.old.items signs.new.items result
+        (piece_text placed.now.interface.now placed.now.placement.now placed.now.unique inside piece.now) }
 {
     let (k, modifier) = match *piece {
         Piece::Byte(byte, _) => return Ok(append(signs, 0, &[byte])?),
@@ -93,8 +94,12 @@ fn signs(
     marks: &[bool],
 ) -> Result<Vec<Sign>, ExpandEnd>
     requires { length marks.now ≡ length pieces.now }
-    ensures ok { IfOk result (λ signs. expansion_with placed.now.interface.now placed.now.placement.now placed.now.unique pieces.now marks.now ≡ Ok signs.items) }
-    ensures err { IfErr result (λ end. FailsText end (expansion_with placed.now.interface.now placed.now.placement.now placed.now.unique pieces.now marks.now)) }
+    ensures ok { IfOk result (λ signs.
+        expansion_with placed.now.interface.now placed.now.placement.now placed.now.unique pieces.now marks.now
+        ≡ Ok signs.items) }
+    ensures err { IfErr result (λ end.
+        FailsText end
+        (expansion_with placed.now.interface.now placed.now.placement.now placed.now.unique pieces.now marks.now)) }
 {
     let mut signs = Vec::new(alloc);
     for (k, piece) in pieces.iter().enumerate() {
@@ -104,8 +109,8 @@ fn signs(
 }
 
 /// A template's text under a placement, each byte with where it comes from (GCC manual, "x86 Operand Modifiers").
-/// `unique` is the number that `%=` gives. In a comment an operand without the name that is asked for prints `?`, which is
-/// this project's own rule.
+/// `unique` is the number that `%=` gives. In a comment an operand without the name that is asked for prints `?`, which
+/// is this project's own rule.
 ///
 /// # Errors
 /// The first operand outside comments that has no such name where it is placed; or want of memory.

@@ -143,7 +143,8 @@ fn placed(rt: &impl Abort, alloc: Global) -> Result<(Interface, Placement), Fail
     Ok((interface, Placement { spots, count: 4 }))
 }
 
-/// The text, and below each byte where it comes from: `.` the template, `=` the number that `%=` gives, the operand's number.
+/// The text, and below each byte where it comes from: `.` the template, `=` the number that `%=` gives, an operand's
+/// number.
 fn told_text(alloc: Global, signs: &[Sign]) -> Result<String, AllocError> {
     let mut text = String::new(alloc);
     let mut origins = String::new(alloc);
