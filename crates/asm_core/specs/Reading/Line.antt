@@ -12,9 +12,6 @@ use Rattle.asm_core.specs.Reading.Operands.{atom_code, trimmed, operands_of, all
 use Rattle.asm_core.specs.Reading.Chosen.{class_of, choice_of, prefixes_fit}
 use Rattle.asm_core.specs.Reading.Facts.{facts_of, atom_of}
 use Rattle.asm_core.specs.declared.reg.Reg.{Reg}
-use Rattle.asm_core.specs.declared.inst.Op.{Op}
-use Rattle.asm_core.specs.declared.inst.Width.{Width}
-use Rattle.asm_core.specs.declared.inst.Repeat.{Repeat}
 use Rattle.asm_core.specs.declared.sym.Disp.{Disp}
 use Rattle.asm_core.specs.declared.sym.Arg.{Arg}
 use Rattle.asm_core.specs.declared.sym.Sym.{Sym}
