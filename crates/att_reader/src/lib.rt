@@ -3,6 +3,7 @@
 
 mod address;
 mod choice;
+mod chosen;
 mod code;
 mod goals;
 mod implicit;
@@ -10,6 +11,7 @@ mod label;
 mod leaf;
 mod line;
 mod number;
+mod operand;
 mod placed_line;
 mod register;
 mod spelling;
@@ -18,4 +20,3 @@ mod text;
 
 pub use implicit::unasked;
 pub use placed_line::instantiate;
-pub use table::NAMES;
