@@ -80,3 +80,13 @@ operand_more goal done zero xs o some e lt = absurd (omega arith)
 operand_more goal done (suc left) xs o some e lt = let less : suc left - 1 ≡ left = omega arith in rw less (more goal done left xs o e lt)
 
 pub ruleset operand_steps = (operands_begin, operands_empty, operands_over, operand_refused, operand_last, operand_more)
+
+-- one turn of the loop over operands
+pub operand_turn : (goal : Goal) (done done' : List LineOperand) (left : ℕ) (xs front trim rest : List Atom) (cs : List ℕ) (n : ℕ) (o : LineOperand) (whole : Option (List LineOperand))
+    → 0 < left → n ≡ operand_len xs → n ≤ length cs → cs ≡ map atom_code xs → (n ≡ length xs → ⊥) → front ≡ take n xs → trim ≡ trimmed front → operand_of goal trim ≡ Some o
+    → done' ≡ done ++ o ∷ [] → rest ≡ drop (n + 1) xs → operands_behind goal done left xs ≡ whole → operands_behind goal done' (left - 1) rest ≡ whole
+operand_turn goal done done' left xs front trim rest cs n o whole some is within codes other front_is trim_is here done_is rest_is all =
+    let long : length cs ≡ length xs = rw codes (length-map xs atom_code) in
+    let read : operand_of goal (trimmed (take (operand_len xs) xs)) ≡ Some o = rw (← is, ← front_is, ← trim_is) here in
+    let short : operand_len xs < length xs = omega arith in
+    rw (done_is, rest_is, is) (sym (operand_more goal done left xs o some read short) ∙ all)

@@ -1,6 +1,6 @@
 //! The line of the table of names that an instruction has.
 
-ghost use Rattle.std.specs.Prelude.{◌≡◌, ◌==◌, count_by, map};
+ghost use Rattle.std.specs.Prelude.{◌≡◌, ◌==◌, count_by, map, slice_get};
 ghost use Rattle.asm_core.specs.Reading.Chosen.{choice_in, choice_of, class_of, first_choice, if_suffix, is_memory, lock_fits, one_prefix, prefixes_fit, register_width, size_in, sized_by, suffix_width};
 ghost use Rattle.att_reader.specs.Table.{row_of};
 
@@ -151,6 +151,12 @@ pub fn choice_of(entries: &[NameEntry], name: &[u8], operands: &[LineOperand]) -
     first_choice(&name[..stem], Some(suffix), operands, entries)
 }
 
+fn operand_at(operands: &[LineOperand], k: usize) -> Option<LineOperand>
+    ensures { result ≡ slice_get operands.now k }
+{
+    operands.get(k).copied()
+}
+
 /// Whether the operand that `lock` wants in memory is there.
 #[tactic(auto, using(crate::proofs::ChosenLemmas::lock_steps))]
 fn lock_fits(lock: Option<u8>, operands: &[LineOperand]) -> bool
@@ -159,7 +165,7 @@ fn lock_fits(lock: Option<u8>, operands: &[LineOperand]) -> bool
     let Some(k) = lock else {
         return false;
     };
-    match operands.get(usize::from(k)).copied() {
+    match operand_at(operands, usize::from(k)) {
         Some(operand) => is_memory(operand),
         None => false,
     }
