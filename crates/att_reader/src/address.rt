@@ -1,6 +1,6 @@
 //! Addresses, and the displacements, registers and scales in them.
 
-ghost use Rattle.std.specs.Prelude.{◌≡◌, ◌≤◌, length, map, option_map, Some, None};
+ghost use Rattle.std.specs.Prelude.{◌≡◌, ◌≤◌, length, map};
 ghost use Rattle.asm_core.specs.Reading.Operands.{address, address_at, address_of, atom_code, base_in, before, between, disp_in, enclosed, front_disp, hole_of, index_in, indexed, place_in, register_place, scale_in, scale_of};
 ghost use Rattle.att_reader.specs.Text.{IsText};
 

@@ -1,6 +1,6 @@
 //! The operands of an instruction.
 
-ghost use Rattle.std.specs.Prelude.{◌≡◌, ◌≤◌, false, length, map, IfOk};
+ghost use Rattle.std.specs.Prelude.{◌≡◌, ◌≤◌, false, length, IfOk};
 ghost use Rattle.asm_core.specs.Reading.Operands.{all_some, comma_outside, operand_of, operands_of, register_operand, written_operand};
 ghost use Rattle.att_reader.specs.Text.{IsText, goals_of, is_comma, is_inside, operand_len};
 
