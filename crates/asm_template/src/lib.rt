@@ -11,6 +11,7 @@ mod operand;
 mod scan_end;
 mod template;
 
+pub use comments::comments;
 pub use scan_end::ScanEnd;
 pub use template::{Scanned, pieces, scan};
 

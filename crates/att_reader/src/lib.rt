@@ -4,18 +4,26 @@
 mod address;
 mod choice;
 mod code;
+mod elements;
+mod facts;
 mod goals;
 mod implicit;
+mod item;
 mod label;
 mod leaf;
 mod line;
+mod named;
 mod number;
 mod placed_line;
+mod raw;
+mod reader;
 mod register;
 mod spelling;
 mod table;
 mod text;
+mod words;
 
 pub use implicit::unasked;
 pub use placed_line::instantiate;
+pub use reader::read_lines;
 pub use table::NAMES;
