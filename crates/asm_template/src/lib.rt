@@ -3,7 +3,7 @@
 
 mod braces;
 mod bytes;
-mod comments;
+pub mod comments;
 mod cut;
 mod form;
 mod neighbours;
@@ -11,7 +11,6 @@ mod operand;
 mod scan_end;
 mod template;
 
-pub use comments::comments;
 pub use scan_end::ScanEnd;
 pub use template::{Scanned, pieces, scan};
 

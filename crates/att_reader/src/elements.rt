@@ -8,7 +8,7 @@ use crate::facts::facts;
 use crate::leaf::leaf_of;
 use crate::text::Text;
 use asm_core::{Atom, Interface, Leaf, Memory, OperandFacts, Piece, Shape};
-use asm_template::comments;
+use asm_template::comments::comments;
 use std::alloc::{AllocError, Global};
 
 /// The elements of a template, each with its code.

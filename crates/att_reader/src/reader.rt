@@ -4,13 +4,14 @@ ghost use Rattle.std.specs.Prelude.{◌≡◌, ◌≤◌, length};
 ghost use Rattle.asm_core.specs.Pieces.{ArePieces};
 ghost use Rattle.asm_core.specs.WellFormed.{IsInterface};
 
+use crate::cut::raws;
 use crate::elements::elements_of;
 use crate::goals::Goals;
-use crate::item::items;
 use crate::label::labels;
 use crate::line::{line_of, push_targets, sym_of};
 use crate::named::named;
-use crate::raw::{Raw, instruction_count, place_from, places, raws};
+use crate::places::{instruction_count, place_from, places};
+use crate::raw::Raw;
 use asm_core::{
     Interface, Items, JumpTarget, Label, Lines, LinesEnd, Memory, Piece, Reading, Shape, Sym,
 };
@@ -113,8 +114,7 @@ pub fn read_lines(
     requires pieces { ArePieces (length interface.now.operands) pieces.now }
 {
     let elements = elements_of(alloc, pieces, interface, shape)?;
-    let items = items(alloc, elements.text())?;
-    let raws = raws(alloc, &items)?;
+    let raws = raws(alloc, elements.text())?;
     let count = instruction_count(&raws);
     if count > MOST {
         return Err(LinesEnd::TooMany);

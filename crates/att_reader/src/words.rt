@@ -1,6 +1,6 @@
 //! The words of a statement: labels, prefixes and names.
 
-ghost use Rattle.std.specs.Prelude.{◌≡◌, ◌≤◌, drop, take, length};
+ghost use Rattle.std.specs.Prelude.{◌≡◌, ◌≤◌, drop, length};
 ghost use Rattle.std.specs.List.{list_all};
 ghost use Rattle.asm_core.specs.Reading.Cut.{is_digit, is_label, is_number_label, is_part, is_unique_label, is_word, prefix_named, word_len};
 
@@ -44,13 +44,14 @@ pub fn is_number_label(word: &[u8]) -> bool
     !word.is_empty() && word.len() <= 4 && all_digits(word)
 }
 
-/// The codes behind the first two and before `end`.
-fn middle(word: &[u8], end: usize) -> &[u8]
-    requires { end ≤ length word.now }
-    ensures { result.now ≡ drop 2 (take end word.now) }
+/// What stands behind the first two codes.
+fn behind_two(word: &[u8]) -> &[u8]
+    ensures { result.now ≡ drop 2 word.now }
 {
-    let from = end.min(2);
-    &word[from..end]
+    match word {
+        [_, _, behind @ ..] => behind,
+        _ => &[],
+    }
 }
 
 /// Whether it is `.L`, letters, digits and `_` of which the last is no digit, and `%=`.
@@ -61,7 +62,7 @@ pub fn is_unique_label(word: &[u8]) -> bool
     code_at(word, 0) == b'.'
         && code_at(word, 1) == b'L'
         && code_at(word, end) == UNIQUE
-        && all_words(middle(word, end))
+        && all_words(behind_two(&word[..end]))
         && !is_digit(code_at(word, end.saturating_sub(1)))
 }
 
