@@ -1,6 +1,6 @@
 -- One step of the cut of a template.
 use Rattle.std.proofs.Common.{◌≡◌, ℕ, zero, suc, ◌+◌, ◌-◌, ◌<◌, ◌≤◌, nat_lt, nat_le, Bool, true, false, cond, List, [], ◌∷◌, ◌++◌, length, map, take, drop, get_or, Option, None, Some, Bor, refl, sym, ap, ◌∙◌, arith, append_assoc, ◌==◌, ◌&&◌, ◌||◌, not}
-use Rattle.std.proofs.lemmas.List.{append-nil, map-append, drop_all, drop-drop, length-drop}
+use Rattle.std.proofs.lemmas.List.{append-nil, map-append, drop_all, drop-drop, length-drop, length-map}
 use native.Mathlib.Numerals.{unary_clauses}
 use Rattle.std.proofs.lemmas.Bool.{le-leb, lt-leb}
 use Rattle.std.proofs.lemmas.Bool.Decides.{nat_tests}
@@ -223,5 +223,30 @@ statement_step xs start n le is =
     by false false e f = refl
     by true false e f = absurd (grind (arith, nat_tests))
     by false true e f = absurd (grind (arith, nat_tests))
+
+pub raws_begun : (c : Cut) (xs : List Atom) → IsEmpty c → cut_with c (left_from 0 xs) ≡ raws_of atom_code xs
+unfolding cut_with raws_of
+raws_begun c xs is =
+    let all : nat_le 0 (length xs) ≡ true = grind (arith, nat_tests) in
+    rw (all, is.raws, is.prefixes, is.froms, is.seen) refl
+
+pub raws_more : (old new : Cut) (xs : List Atom) (start n : ℕ) (rest front : Text) → cut_with old (left_from start xs) ≡ raws_of atom_code xs → start ≤ length xs
+    → rest.atoms.now ≡ drop start xs → IsText rest → n ≡ prefix_len (λ c. not (ends_statement c)) rest.codes.now → front.atoms.now ≡ take n rest.atoms.now
+    → Adds old new (items_of atom_code front.atoms.now) → cut_with new (left_from (start + (n + 1)) xs) ≡ raws_of atom_code xs
+raws_more old new xs start n rest front whole within is same len first adds =
+    let len_of : n ≡ prefix_len (λ c. not (ends_statement c)) (map atom_code (drop start xs)) = rw (same, is) at len in
+    let adds_first : Adds old new (items_of atom_code (take n (drop start xs))) = rw (first, is) at adds in
+    adds_first.each (left_from (start + (n + 1)) xs) ∙ ap (cut_with old) (sym (statement_step xs start n within len_of)) ∙ whole
+
+pub raws_done : (old new : Cut) (xs : List Atom) (start : ℕ) → cut_with old (left_from start xs) ≡ raws_of atom_code xs → length xs < start → EndsWaiting old new → raws_as new.raws.items ≡ raws_of atom_code xs
+unfolding cut_with raws_from
+raws_done old new xs start whole past ends =
+    let over : nat_le start (length xs) ≡ false = grind (arith, nat_tests) in
+    ends.raws ∙ (rw over at whole)
+
+pub within_more : (xs : List Atom) (start n : ℕ) (rest : Text) → start ≤ length xs → rest.atoms.now ≡ drop start xs → IsText rest → n ≤ length rest.codes.now → start + (n + 1) ≤ length xs + 1
+within_more xs start n rest le is same within =
+    let len : length rest.codes.now ≡ length xs - start = rw (same, is, length-map (drop start xs) atom_code) (length-drop start xs) in
+    omega arith
 
 pub ruleset label_steps = (label_again, label_first)
