@@ -1,5 +1,9 @@
+pub mod AddressLemmas
+pub mod ChosenLemmas
 pub mod CutLemmas
+pub mod LineLemmas
 pub mod Names
 pub mod NumberLemmas
+pub mod OperandLemmas
 pub mod SeenLemmas
 pub mod TextLemmas

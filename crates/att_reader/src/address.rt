@@ -147,7 +147,7 @@ fn between(disp: Option<Disp>, text: Text<'_>) -> Option<LineOperand>
 }
 
 /// What stands behind `(`, with `)` as the last element.
-#[tactic(auto, unfolding(asm_core::specs::Reading::Operands::enclosed))]
+#[tactic(auto, using(crate::proofs::AddressLemmas::closed), unfolding(asm_core::specs::Reading::Operands::enclosed),)]
 fn enclosed(disp: Option<Disp>, text: Text<'_>) -> Option<LineOperand>
     requires { IsText text }
     ensures { result ≡ enclosed disp text.entry.atoms.now (length text.entry.atoms.now) }

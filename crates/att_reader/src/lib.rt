@@ -3,6 +3,7 @@
 
 mod address;
 mod choice;
+mod chosen;
 mod code;
 mod cut;
 mod elements;
@@ -14,6 +15,7 @@ mod leaf;
 mod line;
 mod named;
 mod number;
+mod operand;
 mod placed_line;
 mod places;
 mod raw;

@@ -1,17 +1,99 @@
 //! An instruction's reading.
 
-ghost use Rattle.std.specs.Prelude.{◌≡◌, ◌++◌, map, IfOk, OnOk};
-ghost use Rattle.asm_core.specs.Reading.Line.{arg_of, goal_of, label_in, line_of, sym_of, target_in};
+ghost use Rattle.std.specs.Prelude.{◌≡◌, ◌≤◌, ◌++◌, length, map, IfOk, OnOk};
+ghost use Rattle.asm_core.specs.Reading.Line.{arg_of, goal_of, label_in, line_of, line_of_operands, line_with, name_len, sym_of, target_in};
 ghost use Rattle.asm_core.specs.Reading.Names.{names};
+ghost use Rattle.att_reader.specs.Table.{row_of};
 ghost use Rattle.att_reader.specs.Text.{IsText, defined};
 
+use crate::chosen::{choice_of, prefixes_fit};
+use crate::code::{is_blank, is_word};
 use crate::goals::Goals;
+use crate::operand::operands_of;
+use crate::table::{NAMES, NameEntry};
 use crate::text::Text;
-use asm_core::{Arg, Args, Disp, JumpTarget, Line, LineOperand, Memory, Prefix, Reading, Sym};
+use asm_core::{
+    Arg, Args, Choice, Disp, Items, JumpTarget, Line, LineOperand, Memory, Prefix, Prefixed,
+    Reading, Sym,
+};
 use std::alloc::Global;
+
+/// How many codes the name at the beginning has.
+fn name_len(codes: &[u8]) -> usize
+    ensures is { result ≡ name_len codes.now }
+    ensures within { result ≤ length codes.now }
+{
+    codes.iter().take_while(|code| is_word(**code)).count()
+}
+
+fn line_with(
+    choice: Choice,
+    operands: Items<LineOperand>,
+    place: u32,
+    prefixed: Option<Prefixed>,
+) -> Reading
+    ensures { result ≡ line_with choice operands place prefixed }
+{
+    let Some(prefixed) = prefixed else {
+        return Reading::Unread;
+    };
+    if choice.row.left_out {
+        return Reading::LeftOut;
+    }
+    Reading::Read(Line {
+        op: choice.op,
+        width: choice.width,
+        operands,
+        repeat: prefixed.repeat,
+        lock: prefixed.lock,
+        place,
+    })
+}
+
+/// The line with its operands, by the row that their classes choose.
+fn line_of_operands(
+    entries: &[NameEntry],
+    before: &[Prefix],
+    name: &[u8],
+    place: u32,
+    operands: Option<Items<LineOperand>>,
+) -> Reading
+    ensures { result ≡ line_of_operands (map row_of entries.now) before.now name.now place operands }
+{
+    let Some(operands) = operands else {
+        return Reading::Unread;
+    };
+    let Some(choice) = choice_of(entries, name, operands.as_slice()) else {
+        return Reading::Unread;
+    };
+    let prefixed = prefixes_fit(&choice.row, operands.as_slice(), before);
+    line_with(choice, operands, place, prefixed)
+}
+
+/// The reading by those rows. A blank stands between the name and its operands.
+#[tactic(auto, unfolding(asm_core::specs::Reading::Line::line_of, asm_core::specs::Reading::Line::line_at))]
+fn read_line(
+    alloc: Global,
+    entries: &[NameEntry],
+    goals: &Goals<'_>,
+    before: &[Prefix],
+    place: u32,
+    body: Text<'_>,
+) -> Result<Reading, Memory>
+    requires { IsText body }
+    ensures { IfOk result (λ reading. reading ≡ line_of (map row_of entries.now) (goal_of (map defined goals.now.labels.now) goals.now.inst) before.now place body.entry.atoms.now) }
+{
+    let len = name_len(body.codes);
+    if len < body.len() && !is_blank(body.codes[len]) {
+        return Ok(Reading::Unread);
+    }
+    let operands = operands_of(alloc, goals, body.rest(len).trimmed())?;
+    Ok(line_of_operands(entries, before, &body.codes[..len], place, operands))
+}
 
 /// The reading of an instruction with those prefixes. `place` is the offset in the file of its first byte, and `body` what stands
 /// behind the prefixes.
+#[tactic(auto, using(crate::proofs::LineLemmas::table_steps))]
 pub fn line_of(
     alloc: Global,
     goals: &Goals<'_>,
@@ -22,7 +104,7 @@ pub fn line_of(
     requires { IsText body }
     ensures { IfOk result (λ reading. reading ≡ line_of names (goal_of (map defined goals.now.labels.now) goals.now.inst) before.now place body.entry.atoms.now) }
 {
-    Err(Memory)
+    read_line(alloc, &NAMES, goals, before, place, body)
 }
 
 /// The operand before any placement; `count` is the number that a label has that isn't there.
@@ -40,6 +122,7 @@ fn arg_of(count: u32, operand: LineOperand) -> Arg
 }
 
 /// The instruction before any placement; `count`, that of the instructions, is the number that a label has that isn't there.
+#[tactic(auto, using(std::proofs::lemmas::List::map_more))]
 pub fn sym_of(alloc: Global, count: u32, line: &Line) -> Result<Sym, Memory>
     ensures { IfOk result (λ sym. sym ≡ sym_of count line.now) }
 {
@@ -68,6 +151,7 @@ fn label_in(operand: LineOperand) -> Option<Option<u32>>
 }
 
 /// Puts the targets of the instruction of that number behind those that are there.
+#[tactic(auto, using(crate::proofs::LineLemmas::target_steps))]
 pub fn push_targets(targets: &mut Vec<JumpTarget>, inst: u32, line: &Line) -> Result<(), Memory>
     ensures { OnOk result (targets.new.items ≡ targets.old.items ++ target_in inst line.now.operands) }
 {
