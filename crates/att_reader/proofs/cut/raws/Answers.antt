@@ -11,7 +11,7 @@ loop-start-preserved c =
     record {
       within = within_more c.args.text.atoms.now c.loop-start.start c.statement_len-n.result c.rest-rest.result le c.rest-rest.ensures.is c.rest-rest.ensures.same c.statement_len-n.ensures.within;
       whole = raws_more c.loop-start.cut c.add_statement.new.self c.args.text.atoms.now c.loop-start.start c.statement_len-n.result c.rest-rest.result c.front.result c.loop-start.invariant.whole le
-        c.rest-rest.ensures.is c.rest-rest.ensures.same c.statement_len-n.ensures.is c.front.ensures.is c.in_ok-add_statement.ensures;
+          c.rest-rest.ensures.is c.rest-rest.ensures.same c.statement_len-n.ensures.is c.front.ensures.is c.in_ok-add_statement.ensures;
     }
 
 pub returns : goal.returns
