@@ -1,6 +1,6 @@
 -- One step of the cut of a template.
 use Rattle.std.proofs.Common.{◌≡◌, ℕ, zero, suc, ◌+◌, ◌-◌, ◌<◌, ◌≤◌, nat_lt, nat_le, Bool, true, false, cond, List, [], ◌∷◌, ◌++◌, length, map, take, drop, get_or, Option, None, Some, Bor, refl, sym, ap, ◌∙◌, arith, append_assoc, ◌==◌, ◌&&◌, ◌||◌, not}
-use Rattle.std.proofs.lemmas.List.{append-nil, map-append, drop_all, drop-drop, length-drop, length-map}
+use Rattle.std.proofs.lemmas.List.{map-append, drop-drop, length-drop, length-map}
 use native.Mathlib.Numerals.{unary_clauses}
 use Rattle.std.proofs.lemmas.Bool.{le-leb, lt-leb}
 use Rattle.std.proofs.lemmas.Bool.Decides.{nat_tests}

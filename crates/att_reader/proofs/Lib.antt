@@ -1,6 +1,7 @@
 pub mod AddressLemmas
 pub mod ChosenLemmas
 pub mod CutLemmas
+pub mod LabelLemmas
 pub mod LineLemmas
 pub mod Names
 pub mod NumberLemmas
