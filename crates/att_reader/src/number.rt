@@ -16,7 +16,7 @@ fn more_digits(radix: u32, limit: u32, value: u32, digit: u8) -> Option<u32>
 
 /// The number that the digits write, where there are nothing but digits and the number isn't above the limit.
 #[tactic(auto, using(crate::proofs::NumberLemmas::numeral_steps))]
-fn numeral(radix: u32, limit: u32, digits: &[u8]) -> Option<u32>
+pub fn numeral(radix: u32, limit: u32, digits: &[u8]) -> Option<u32>
     requires { (2 ≤ radix) × (radix ≤ 36) }
     ensures { result ≡ not_above (numeral_value radix digits.now) limit }
 {
