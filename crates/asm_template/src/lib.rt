@@ -3,7 +3,7 @@
 
 mod braces;
 mod bytes;
-mod comments;
+pub mod comments;
 mod cut;
 mod expand_end;
 mod expansion;

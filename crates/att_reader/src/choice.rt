@@ -22,7 +22,7 @@ fn same_width(v: Width, w: Width) -> bool
     width_bytes(v) == width_bytes(w)
 }
 
-fn slice_width(slice: Slice) -> Width
+pub fn slice_width(slice: Slice) -> Width
     ensures { result ≡ slice_width slice }
 {
     match slice {
@@ -32,7 +32,7 @@ fn slice_width(slice: Slice) -> Width
     }
 }
 
-fn allows_register(allowed: Allowed) -> bool
+pub fn allows_register(allowed: Allowed) -> bool
     ensures { result ≡ allows_register allowed }
 {
     matches!(
