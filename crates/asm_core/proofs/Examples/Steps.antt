@@ -5,7 +5,7 @@ use Rattle.asm_core.specs.Reading.Placed.{inst_under}
 use Rattle.asm_core.specs.RowLaws.{Component, component_in, FitsCopies, IsLast, LeavesCopies}
 use Rattle.asm_core.specs.RowTerms.{op1, arg, to_arg}
 use Rattle.asm_core.specs.Steps.{Stand, IsDone}
-use Rattle.asm_core.specs.Table.{mov_row}
+use Rattle.asm_core.specs.Table.Moves.{mov_row}
 use Rattle.asm_core.proofs.CopyLaws.{leaves_copies}
 use Rattle.asm_core.proofs.DecideLaws.{holds_of}
 use Rattle.asm_core.proofs.Examples.Machines.{fresh}
