@@ -1,1 +1,2 @@
+pub mod AddressAsWritten
 pub mod Names

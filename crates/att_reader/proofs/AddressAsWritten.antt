@@ -1,0 +1,210 @@
+-- An address that an operand prints is read as the same bytes of a template would be.
+use Rattle.std.proofs.Common.{◌≡◌, inl, inr, ℕ, zero, suc, ◌+◌, ◌==◌, ◌&&◌, ◌||◌, ◌<◌, nat_lt, not, ℤ, pos, negsuc, List, [], ◌∷◌, ◌++◌, length, map, take, drop, Bool, true, false, Option, None, Some, refl, ap, sym, ◌∙◌, slice_index, decimal, arith}
+use Rattle.std.proofs.Math.Dec.{eqb-suc-zero}
+use Rattle.std.proofs.lemmas.Bool.{lt-ltb}
+use Rattle.std.proofs.lemmas.List.{length-map}
+use Rattle.std.specs.Fmt.{signed_decimal}
+use Rattle.std.specs.Option.{option_map}
+use Rattle.std.specs.List.{prefix_len}
+use Rattle.asm_core.specs.Reg.{reg_name}
+use Rattle.asm_core.specs.Reading.Cut.{is_blank, begun}
+use Rattle.asm_core.specs.Reading.Written.{register_named, magnitude_of, number_of}
+use Rattle.asm_core.specs.Reading.Operands.{atom_code, content_len, ended, trimmed, disp_in, place_in, scale_of, scale_in, before, base_in, index_in, between, enclosed, front_disp, address_at, address_of}
+use Rattle.asm_core.specs.Reading.Placed.{IsWordNumber}
+use Rattle.asm_core.specs.Expansion.{base_text, index_text, disp_text}
+use Rattle.asm_core.proofs.ReadingLaws.AsWritten.{written, wide, codes_written, no_hole_written, disp_written, wide_lacks, wide_number, first_true, both_true, all_before}
+use Rattle.asm_core.proofs.ReadingLaws.ReadBack.{lacks, lacks_case, lacks-append, number_back, name_back, IsScale, scale_word, scale_small, decimal_lacks, signed_lacks, register_lacks, Cutter}
+use Rattle.asm_core.specs.declared.reg.Reg.{Reg}
+use Rattle.asm_core.specs.declared.sym.Place.{Place}
+use Rattle.asm_core.specs.declared.sym.Disp.{Disp}
+use Rattle.asm_core.specs.declared.reading.Atom.{Atom}
+use Rattle.asm_core.specs.declared.reading.LineOperand.{LineOperand}
+
+-- ---- cuts at a byte
+
+wide-append : (xs ys : List ℕ) → wide xs ≡ true → wide ys ≡ true → wide (xs ++ ys) ≡ true
+wide-append [] ys hx hy = hy
+wide-append (x ∷ xs) ys hx hy = rw (first_true _ (wide xs) hx, wide-append xs ys (both_true _ (wide xs) hx) hy) refl
+
+before_cut : (c : ℕ) (xs ys : List ℕ) → (c == c) ≡ true → lacks c xs ≡ true → before c (xs ++ c ∷ ys) ≡ length xs
+before_cut c [] ys same h = rw same refl
+before_cut c (x ∷ xs) ys same h =
+    let parts = lacks_case (x == c) (lacks c xs) h in
+    let more : 1 + length xs ≡ suc (length xs) = omega arith in
+    rw (parts.0, before_cut c xs ys same parts.1) more
+
+take_cut : (c : ℕ) (xs ys : List ℕ) → take (length xs) (written (xs ++ c ∷ ys)) ≡ written xs
+take_cut c [] ys = refl
+take_cut c (x ∷ xs) ys = rw (take_cut c xs ys) refl
+
+drop_next : (c : ℕ) (xs ys : List ℕ) → drop (suc (length xs)) (written (xs ++ c ∷ ys)) ≡ written ys
+drop_next c [] ys = refl
+drop_next c (x ∷ xs) ys = drop_next c xs ys
+
+drop_cut : (c : ℕ) (xs ys : List ℕ) → drop (length xs + 1) (written (xs ++ c ∷ ys)) ≡ written ys
+drop_cut c xs ys = let next : length xs + 1 ≡ suc (length xs) = omega arith in rw next (drop_next c xs ys)
+
+is_inside : (c : ℕ) (xs ys : List ℕ) → nat_lt (length xs) (length (written (xs ++ c ∷ ys))) ≡ true
+is_inside c xs ys = lt-ltb (length xs) (length (written (xs ++ c ∷ ys))) (below xs)
+  where
+    below : (xs : List ℕ) → length xs < length (written (xs ++ c ∷ ys))
+    below [] = omega arith
+    below (x ∷ xs) = let lt = below xs in omega arith
+
+last_is : (c : ℕ) (xs : List ℕ) → slice_index (xs ++ c ∷ []) (length xs) ≡ c
+last_is c [] = refl
+last_is c (x ∷ xs) = last_is c xs
+
+length_last : (c : ℕ) (xs : List ℕ) → length (written (xs ++ c ∷ [])) ≡ suc (length xs)
+length_last c [] = refl
+length_last c (x ∷ xs) = ap suc (length_last c xs)
+
+-- ---- no blanks
+
+no_blank : (c : ℕ) (cs : List ℕ) → lacks 32 (c ∷ cs) ≡ true → lacks 9 (c ∷ cs) ≡ true → is_blank c ≡ false
+no_blank c cs h k = rw ((lacks_case (c == 32) (lacks 32 cs) h).0, (lacks_case (c == 9) (lacks 9 cs) k).0) refl
+
+none_ended : (b : Bool) → (b && false) ≡ false
+none_ended true = refl
+none_ended false = refl
+
+content_all : (cs : List ℕ) → lacks 32 cs ≡ true → lacks 9 cs ≡ true → content_len cs ≡ length cs
+content_all [] h k = refl
+content_all (c ∷ cs) h k =
+    let more : 1 + length cs ≡ suc (length cs) = omega arith in
+    rw (no_blank c cs h k, none_ended (content_len cs == 0), content_all cs (lacks_case (c == 32) (lacks 32 cs) h).1 (lacks_case (c == 9) (lacks 9 cs) k).1) more
+
+take_all : (text : List ℕ) → take (length text) (written text) ≡ written text
+take_all [] = refl
+take_all (c ∷ cs) = rw (take_all cs) refl
+
+ended_written : (text : List ℕ) → wide text ≡ true → lacks 32 text ≡ true → lacks 9 text ≡ true → ended (written text) ≡ written text
+unfolding ended
+ended_written text w h k = rw (codes_written text w, content_all text h k) (take_all text)
+
+none_begun : (cs : List ℕ) → lacks 32 cs ≡ true → lacks 9 cs ≡ true → prefix_len is_blank cs ≡ 0
+none_begun [] h k = refl
+none_begun (c ∷ cs) h k = rw (no_blank c cs h k) refl
+
+begun_written : (text : List ℕ) → wide text ≡ true → lacks 32 text ≡ true → lacks 9 text ≡ true → begun atom_code (written text) ≡ written text
+unfolding begun
+begun_written text w h k = rw (codes_written text w, none_begun text h k) refl
+
+trimmed_written : (text : List ℕ) → wide text ≡ true → lacks 32 text ≡ true → lacks 9 text ≡ true → trimmed (written text) ≡ written text
+unfolding trimmed
+trimmed_written text w h k = rw (begun_written text w h k) (ended_written text w h k)
+
+-- a text that is cut nowhere: it has no blanks
+pub record IsPart (text : List ℕ) : Type 0 where
+  is_wide : wide text ≡ true
+  no_space : lacks 32 text ≡ true
+  no_tab : lacks 9 text ≡ true
+
+trimmed_part : (text : List ℕ) → IsPart text → trimmed (written text) ≡ written text
+trimmed_part text part = trimmed_written text part.is_wide part.no_space part.no_tab
+
+-- ---- registers, scales, displacements
+
+register_part : (r : Reg) → IsPart (37 ∷ reg_name r)
+register_part Reg.Eax = record { is_wide = refl; no_space = refl; no_tab = refl }
+register_part Reg.Ebx = record { is_wide = refl; no_space = refl; no_tab = refl }
+register_part Reg.Ecx = record { is_wide = refl; no_space = refl; no_tab = refl }
+register_part Reg.Edx = record { is_wide = refl; no_space = refl; no_tab = refl }
+register_part Reg.Esi = record { is_wide = refl; no_space = refl; no_tab = refl }
+register_part Reg.Edi = record { is_wide = refl; no_space = refl; no_tab = refl }
+register_part Reg.Ebp = record { is_wide = refl; no_space = refl; no_tab = refl }
+
+place_written : (r : Reg) → place_in (trimmed (written (37 ∷ reg_name r))) ≡ Some (Place.Reg r)
+unfolding place_in
+place_written r = let part = register_part r in rw (trimmed_part (37 ∷ reg_name r) part, no_hole_written (37 ∷ reg_name r), codes_written (37 ∷ reg_name r) part.is_wide, name_back r) refl
+
+base_written : (r : Reg) → base_in (trimmed (written (37 ∷ reg_name r))) ≡ Some (Some (Place.Reg r))
+unfolding base_in
+base_written r =
+    let part = register_part r in
+    rw (place_written r, trimmed_part (37 ∷ reg_name r) part, eqb-suc-zero (length (written (reg_name r)))) refl
+
+scale_part : (n : ℕ) → IsScale n → IsPart (decimal n)
+scale_part n is =
+    let small = scale_small n is in
+    record {
+      is_wide = wide_lacks (decimal n) (decimal_lacks 0 n (omega arith) small) (decimal_lacks 1 n (omega arith) small);
+      no_space = decimal_lacks 32 n (omega arith) small;
+      no_tab = decimal_lacks 9 n (omega arith) small;
+    }
+
+scale_some : (n : ℕ) → IsScale n → scale_of (Some (pos n)) ≡ Some n
+scale_some n (inl e) = rw e refl
+scale_some n (inr (inl e)) = rw e refl
+scale_some n (inr (inr (inl e))) = rw e refl
+scale_some n (inr (inr (inr (inl e)))) = rw e refl
+scale_some n (inr (inr (inr (inr h)))) = absurd h
+
+scale_written : (n : ℕ) → IsScale n → scale_in (trimmed (written (decimal n))) ≡ Some n
+unfolding scale_in
+scale_written n is =
+    let part = scale_part n is in
+    rw (trimmed_part (decimal n) part, no_hole_written (decimal n), codes_written (decimal n) part.is_wide, number_back (pos n) (scale_word n is)) (scale_some n is)
+
+no_number : number_of [] ≡ None
+unfolding number_of magnitude_of
+no_number = refl
+
+front_written : (text : List ℕ) (z : ℤ) → wide text ≡ true → number_of text ≡ Some z → front_disp (written text) ≡ Some (Disp.Number z)
+unfolding front_disp
+front_written [] z w e = let no : None ≡ Some z = sym no_number ∙ e in cc
+front_written (c ∷ cs) z w e = rw (eqb-suc-zero (length (written cs)), disp_written (c ∷ cs) z w e) refl
+
+no_front : front_disp (written []) ≡ Some (Disp.Number (pos 0))
+unfolding front_disp
+no_front = refl
+
+number_part : (z : ℤ) → IsWordNumber z → IsPart (signed_decimal z)
+number_part z word = record { is_wide = wide_number z word; no_space = signed_lacks 32 z (omega arith) word; no_tab = signed_lacks 9 z (omega arith) word }
+
+number_front : (z : ℤ) → IsWordNumber z → front_disp (ended (written (signed_decimal z))) ≡ Some (Disp.Number z)
+number_front z word =
+    let part = number_part z word in
+    rw (ended_written (signed_decimal z) part.is_wide part.no_space part.no_tab) (front_written (signed_decimal z) z part.is_wide (number_back z word))
+
+disp_front : (z : ℤ) → IsWordNumber z → front_disp (ended (written (disp_text z))) ≡ Some (Disp.Number z)
+disp_front (pos zero) word = rw (ended_written [] refl refl refl) no_front
+disp_front (pos (suc n)) word = number_front (pos (suc n)) word
+disp_front (negsuc n) word = number_front (negsuc n) word
+
+disp_wide : (z : ℤ) → IsWordNumber z → wide (disp_text z) ≡ true
+disp_wide (pos zero) word = refl
+disp_wide (pos (suc n)) word = wide_number (pos (suc n)) word
+disp_wide (negsuc n) word = wide_number (negsuc n) word
+
+-- ---- what stands between the parentheses
+
+abbrev inside : Option Disp → List ℕ → Option LineOperand
+inside d text = between d (written text) (before 44 (map atom_code (written text)))
+
+alone_inside : (d : Disp) (text : List ℕ) (place : Place) → wide text ≡ true → lacks 44 text ≡ true → place_in (trimmed (written text)) ≡ Some place → inside (Some d) text ≡ Some (LineOperand.Address d (Some place) None)
+unfolding between
+alone_inside d text place w no_comma e = rw (codes_written text w, length-map, all_before 44 text no_comma, e) refl
+
+index_inside : (first last : List ℕ) (place : Place) (n : ℕ) → wide (first ++ 44 ∷ last) ≡ true → lacks 44 first ≡ true → place_in (trimmed (written first)) ≡ Some place → scale_in (trimmed (written last)) ≡ Some n
+    → index_in (written (first ++ 44 ∷ last)) (before 44 (map atom_code (written (first ++ 44 ∷ last)))) ≡ Some (Some (place, n))
+unfolding index_in
+index_inside first last place n w no_comma e f =
+    rw (codes_written (first ++ 44 ∷ last) w, before_cut 44 first last refl no_comma, is_inside 44 first last, take_cut 44 first last, drop_cut 44 first last, e, f) refl
+
+both_inside : (d : Disp) (first rest : List ℕ) (base : Option Place) (index : Option (Place × ℕ)) → wide (first ++ 44 ∷ rest) ≡ true → lacks 44 first ≡ true → base_in (trimmed (written first)) ≡ Some base
+    → index_in (written rest) (before 44 (map atom_code (written rest))) ≡ Some index → inside (Some d) (first ++ 44 ∷ rest) ≡ Some (LineOperand.Address d base index)
+unfolding between
+both_inside d first rest base index w no_comma e f =
+    rw (codes_written (first ++ 44 ∷ rest) w, before_cut 44 first rest refl no_comma, is_inside 44 first rest, take_cut 44 first rest, drop_cut 44 first rest, e, f) refl
+
+closed : (d : Disp) (inner : List ℕ) (n : ℕ) (o : LineOperand) → wide (inner ++ 41 ∷ []) ≡ true → n ≡ suc (length inner) → inside (Some d) inner ≡ Some o → enclosed (Some d) (written (inner ++ 41 ∷ [])) n ≡ Some o
+unfolding enclosed
+closed d inner n o w at e = rw (at, codes_written (inner ++ 41 ∷ []) w, last_is 41 inner, take_cut 41 inner []) e
+
+in_parentheses : (d : Disp) (front inner : List ℕ) (o : LineOperand) → wide (front ++ 40 ∷ (inner ++ 41 ∷ [])) ≡ true → wide (inner ++ 41 ∷ []) ≡ true → lacks 40 front ≡ true
+    → front_disp (ended (written front)) ≡ Some d → inside (Some d) inner ≡ Some o → address_of (written (front ++ 40 ∷ (inner ++ 41 ∷ []))) ≡ Some o
+unfolding address_of address_at
+in_parentheses d front inner o w v no_open e f =
+    let rest = inner ++ 41 ∷ [] in
+    rw (codes_written (front ++ 40 ∷ rest) w, before_cut 40 front rest refl no_open, is_inside 40 front rest, take_cut 40 front rest, drop_cut 40 front rest, e) (closed d inner (length (written rest)) o v (length_last 41 inner) f)
