@@ -1,5 +1,5 @@
 -- An address that an operand prints is read as the same bytes of a template would be.
-use Rattle.std.proofs.Common.{◌≡◌, inl, inr, ℕ, zero, suc, ◌+◌, ◌==◌, ◌&&◌, ◌||◌, ◌<◌, nat_lt, not, ℤ, pos, negsuc, List, [], ◌∷◌, ◌++◌, length, map, take, drop, Bool, true, false, Option, None, Some, refl, ap, sym, ◌∙◌, slice_index, decimal, arith}
+use Rattle.std.proofs.Common.{◌≡◌, inl, inr, ℕ, zero, suc, ◌+◌, ◌-◌, ◌==◌, ◌&&◌, ◌||◌, ◌<◌, nat_lt, not, ℤ, pos, negsuc, List, [], ◌∷◌, ◌++◌, length, map, take, drop, Bool, true, false, Option, None, Some, refl, ap, sym, ◌∙◌, slice_index, decimal, length-append, arith}
 use Rattle.std.proofs.Math.Dec.{eqb-suc-zero}
 use Rattle.std.proofs.lemmas.Bool.{lt-ltb}
 use Rattle.std.proofs.lemmas.List.{length-map}
@@ -9,14 +9,16 @@ use Rattle.std.specs.List.{prefix_len}
 use Rattle.asm_core.specs.Reg.{reg_name}
 use Rattle.asm_core.specs.Reading.Cut.{is_blank, begun}
 use Rattle.asm_core.specs.Reading.Written.{register_named, magnitude_of, number_of}
-use Rattle.asm_core.specs.Reading.Operands.{atom_code, content_len, ended, trimmed, disp_in, place_in, scale_of, scale_in, before, base_in, index_in, between, enclosed, front_disp, address_at, address_of}
+use Rattle.asm_core.specs.Reading.Operands.{atom_code, content_len, ended, trimmed, disp_in, place_in, scale_of, scale_in, before, base_in, index_in, between, enclosed, front_disp, address_at, address_of, written_operand}
 use Rattle.asm_core.specs.Reading.Placed.{IsWordNumber}
 use Rattle.asm_core.specs.Expansion.{base_text, index_text, disp_text}
-use Rattle.asm_core.proofs.ReadingLaws.AsWritten.{written, wide, codes_written, no_hole_written, disp_written, wide_lacks, wide_number, first_true, both_true, all_before}
-use Rattle.asm_core.proofs.ReadingLaws.ReadBack.{lacks, lacks_case, lacks-append, number_back, name_back, IsScale, scale_word, scale_small, decimal_lacks, signed_lacks, register_lacks, Cutter}
+use Rattle.asm_core.specs.Reading.Text.{base_arg, index_arg}
+use Rattle.asm_core.proofs.ReadingLaws.AsWritten.{said, operand_written, written, wide, codes_written, no_hole_written, disp_written, wide_lacks, wide_number, first_true, both_true, all_before}
+use Rattle.asm_core.proofs.ReadingLaws.ReadBack.{lacks, lacks_case, lacks-append, number_back, name_back, IsScale, scale_word, scale_small, decimal_lacks, signed_lacks, disp_lacks, register_lacks, Cutter}
 use Rattle.asm_core.specs.declared.reg.Reg.{Reg}
 use Rattle.asm_core.specs.declared.sym.Place.{Place}
 use Rattle.asm_core.specs.declared.sym.Disp.{Disp}
+use Rattle.asm_core.specs.declared.inst.InstArg.{InstArg}
 use Rattle.asm_core.specs.declared.reading.Atom.{Atom}
 use Rattle.asm_core.specs.declared.reading.LineOperand.{LineOperand}
 
@@ -208,3 +210,71 @@ unfolding address_of address_at
 in_parentheses d front inner o w v no_open e f =
     let rest = inner ++ 41 ∷ [] in
     rw (codes_written (front ++ 40 ∷ rest) w, before_cut 40 front rest refl no_open, is_inside 40 front rest, take_cut 40 front rest, drop_cut 40 front rest, e) (closed d inner (length (written rest)) o v (length_last 41 inner) f)
+
+-- ---- addresses with registers
+
+-- what stands between the parentheses is read
+record IsInner (d : Disp) (text : List ℕ) (base : Option Place) (index : Option (Place × ℕ)) : Type 0 where
+  is_wide : wide text ≡ true
+  is_read : inside (Some d) text ≡ Some (LineOperand.Address d base index)
+
+base_inner : (d : Disp) (r : Reg) → IsInner d (37 ∷ reg_name r) (Some (Place.Reg r)) None
+base_inner d r = let part = register_part r in record { is_wide = part.is_wide; is_read = alone_inside d (37 ∷ reg_name r) (Place.Reg r) part.is_wide (register_lacks Cutter.Comma r) (place_written r) }
+
+no_base : base_in (trimmed (written [])) ≡ Some None
+unfolding base_in
+no_base = rw (trimmed_part [] (record { is_wide = refl; no_space = refl; no_tab = refl })) refl
+
+-- the text of an index and its scale
+abbrev scaled_text : Reg → ℕ → List ℕ
+scaled_text r n = (37 ∷ reg_name r) ++ 44 ∷ decimal n
+
+scaled_wide : (r : Reg) (n : ℕ) → IsScale n → wide (scaled_text r n) ≡ true
+scaled_wide r n is = wide-append (37 ∷ reg_name r) (44 ∷ decimal n) (register_part r).is_wide (scale_part n is).is_wide
+
+scaled_read : (r : Reg) (n : ℕ) → IsScale n → index_in (written (scaled_text r n)) (before 44 (map atom_code (written (scaled_text r n)))) ≡ Some (Some (Place.Reg r, n))
+scaled_read r n is = index_inside (37 ∷ reg_name r) (decimal n) (Place.Reg r) n (scaled_wide r n is) (register_lacks Cutter.Comma r) (place_written r) (scale_written n is)
+
+index_inner : (d : Disp) (r : Reg) (n : ℕ) → IsScale n → IsInner d (44 ∷ scaled_text r n) None (Some (Place.Reg r, n))
+index_inner d r n is = let w = scaled_wide r n is in record { is_wide = w; is_read = both_inside d [] (scaled_text r n) None (Some (Place.Reg r, n)) w refl no_base (scaled_read r n is) }
+
+pair_inner : (d : Disp) (b r : Reg) (n : ℕ) → IsScale n → IsInner d ((37 ∷ reg_name b) ++ 44 ∷ scaled_text r n) (Some (Place.Reg b)) (Some (Place.Reg r, n))
+pair_inner d b r n is =
+    let w : wide ((37 ∷ reg_name b) ++ 44 ∷ scaled_text r n) ≡ true = wide-append (37 ∷ reg_name b) (44 ∷ scaled_text r n) (register_part b).is_wide (scaled_wide r n is) in
+    record { is_wide = w; is_read = both_inside d (37 ∷ reg_name b) (scaled_text r n) (Some (Place.Reg b)) (Some (Place.Reg r, n)) w (register_lacks Cutter.Comma b) (base_written b) (scaled_read r n is) }
+
+closed_wide : (text : List ℕ) → wide text ≡ true → wide (text ++ 41 ∷ []) ≡ true
+closed_wide text w = wide-append text (41 ∷ []) w refl
+
+address_wide : (d : ℤ) (text : List ℕ) → IsWordNumber d → wide text ≡ true → wide (disp_text d ++ 40 ∷ (text ++ 41 ∷ [])) ≡ true
+address_wide d text word w = wide-append (disp_text d) (40 ∷ (text ++ 41 ∷ [])) (disp_wide d word) (closed_wide text w)
+
+address_written : (d : ℤ) (text : List ℕ) (base : Option Place) (index : Option (Place × ℕ)) → IsWordNumber d → IsInner (Disp.Number d) text base index
+    → address_of (written (disp_text d ++ 40 ∷ (text ++ 41 ∷ []))) ≡ Some (LineOperand.Address (Disp.Number d) base index)
+address_written d text base index word inner =
+    in_parentheses (Disp.Number d) (disp_text d) text (LineOperand.Address (Disp.Number d) base index) (address_wide d text word inner.is_wide) (closed_wide text inner.is_wide)
+    (disp_lacks 40 d (omega arith) word) (disp_front d word) inner.is_read
+
+-- ---- operands
+
+first_of : (c : ℕ) (front rest : List ℕ) → (40 == c) ≡ false → lacks c front ≡ true → (slice_index (front ++ 40 ∷ rest) 0 == c) ≡ false
+first_of c [] rest other h = other
+first_of c (x ∷ xs) rest other h = (lacks_case (x == c) (lacks c xs) h).0
+
+last_of : (c : ℕ) (xs : List ℕ) → slice_index (xs ++ c ∷ []) (length (xs ++ c ∷ []) - 1) ≡ c
+last_of c xs = let at : length (xs ++ c ∷ []) - 1 ≡ length xs = (let long : length (xs ++ c ∷ []) ≡ length xs + 1 = length-append xs (c ∷ []) in omega arith) in rw at (last_is c xs)
+
+module _ (goal : List ℕ → Option (Option ℕ)) (count : ℕ) where
+  operand_said : (d : ℤ) (text : List ℕ) (base : Option Place) (index : Option (Place × ℕ)) → IsWordNumber d → IsInner (Disp.Number d) text base index → goal (disp_text d ++ 40 ∷ (text ++ 41 ∷ [])) ≡ None
+      → said goal count (written (disp_text d ++ 40 ∷ (text ++ 41 ∷ []))) ≡ Some (InstArg.Address (record { disp = d; base = base_arg base; index = index_arg index }) None)
+  unfolding written_operand
+  operand_said d text base index word inner none =
+      let whole = disp_text d ++ 40 ∷ (text ++ 41 ∷ []) in
+      rw (
+        operand_written goal whole,
+        codes_written whole (address_wide d text word inner.is_wide),
+        first_of 36 (disp_text d) (text ++ 41 ∷ []) refl (disp_lacks 36 d (omega arith) word),
+        first_of 37 (disp_text d) (text ++ 41 ∷ []) refl (disp_lacks 37 d (omega arith) word),
+        none,
+        address_written d text base index word inner,
+      ) refl
