@@ -1,5 +1,5 @@
 -- An address that an operand prints is read as the same bytes of a template would be.
-use Rattle.std.proofs.Common.{◌≡◌, inl, inr, ℕ, zero, suc, ◌+◌, ◌-◌, ◌==◌, ◌&&◌, ◌||◌, ◌<◌, nat_lt, not, ℤ, pos, negsuc, List, [], ◌∷◌, ◌++◌, length, map, take, drop, Bool, true, false, Option, None, Some, refl, ap, sym, ◌∙◌, slice_index, decimal, length-append, arith}
+use Rattle.std.proofs.Common.{◌≡◌, inl, inr, ℕ, zero, suc, ◌+◌, ◌-◌, ◌==◌, ◌&&◌, ◌||◌, ◌<◌, nat_lt, not, ℤ, pos, negsuc, List, [], ◌∷◌, ◌++◌, length, map, take, drop, Bool, true, false, Option, None, Some, refl, ap, sym, ◌∙◌, slice_index, decimal, length-append, append_assoc, arith}
 use Rattle.std.proofs.Math.Dec.{eqb-suc-zero}
 use Rattle.std.proofs.lemmas.Bool.{lt-ltb}
 use Rattle.std.proofs.lemmas.List.{length-map}
@@ -9,16 +9,21 @@ use Rattle.std.specs.List.{prefix_len}
 use Rattle.asm_core.specs.Reg.{reg_name}
 use Rattle.asm_core.specs.Reading.Cut.{is_blank, begun}
 use Rattle.asm_core.specs.Reading.Written.{register_named, magnitude_of, number_of}
-use Rattle.asm_core.specs.Reading.Operands.{atom_code, content_len, ended, trimmed, disp_in, place_in, scale_of, scale_in, before, base_in, index_in, between, enclosed, front_disp, address_at, address_of, written_operand}
+use Rattle.asm_core.specs.Reading.Operands.{atom_code, content_len, ended, trimmed, disp_in, place_in, scale_of, scale_in, before, base_in, index_in, between, enclosed, front_disp, address_at, address_of, written_operand, operand_of}
+use Rattle.asm_core.specs.Placement.{IsForm}
+use Rattle.asm_core.specs.Reading.Line.{Defined, is_reference, goal_of}
 use Rattle.asm_core.specs.Reading.Placed.{IsWordNumber}
-use Rattle.asm_core.specs.Expansion.{base_text, index_text, disp_text}
-use Rattle.asm_core.specs.Reading.Text.{base_arg, index_arg}
-use Rattle.asm_core.proofs.ReadingLaws.AsWritten.{said, operand_written, written, wide, codes_written, no_hole_written, disp_written, wide_lacks, wide_number, first_true, both_true, all_before}
-use Rattle.asm_core.proofs.ReadingLaws.ReadBack.{lacks, lacks_case, lacks-append, number_back, name_back, IsScale, scale_word, scale_small, decimal_lacks, signed_lacks, disp_lacks, register_lacks, Cutter}
+use Rattle.asm_core.specs.Expansion.{registers_text, disp_text, form_text}
+use Rattle.asm_core.specs.Reading.Text.{base_arg, index_arg, form_read}
+use Rattle.asm_core.proofs.ReadingLaws.AsWritten.{said, given, operand_written, first_lacks, absolute_written, signed_pass, digit_apart, number_no_label, written, wide, codes_written, no_hole_written, disp_written, wide_lacks, wide_number, first_true, both_true, all_before}
+use Rattle.asm_core.proofs.ReadingLaws.ReadBack.{lacks, lacks_case, lacks-append, number_back, name_back, form_back, IsScale, scale_word, scale_small, decimal_lacks, signed_lacks, disp_lacks, register_lacks, Cutter}
 use Rattle.asm_core.specs.declared.reg.Reg.{Reg}
 use Rattle.asm_core.specs.declared.sym.Place.{Place}
 use Rattle.asm_core.specs.declared.sym.Disp.{Disp}
 use Rattle.asm_core.specs.declared.inst.InstArg.{InstArg}
+use Rattle.asm_core.specs.declared.placement.Base.{Base}
+use Rattle.asm_core.specs.declared.placement.Form.{Form}
+use Rattle.asm_core.specs.declared.reading.Leaf.{Leaf}
 use Rattle.asm_core.specs.declared.reading.Atom.{Atom}
 use Rattle.asm_core.specs.declared.reading.LineOperand.{LineOperand}
 
@@ -278,3 +283,66 @@ module _ (goal : List ℕ → Option (Option ℕ)) (count : ℕ) where
         none,
         address_written d text base index word inner,
       ) refl
+
+  number_said : (d : ℤ) → IsWordNumber d → goal (signed_decimal d) ≡ None → said goal count (written (signed_decimal d)) ≡ Some (InstArg.Address (record { disp = d; base = None; index = None }) None)
+  unfolding written_operand
+  number_said d word none =
+      let text = signed_decimal d in
+      rw (
+        operand_written goal text,
+        codes_written text (wide_number d word),
+        first_lacks 36 text refl (signed_lacks 36 d (omega arith) word),
+        first_lacks 37 text refl (signed_lacks 37 d (omega arith) word),
+        none,
+        absolute_written d word,
+      ) refl
+
+  form_said : (d : ℤ) (base : Option Base) (index : Option (Reg × ℕ)) → IsWordNumber d → ((x : Reg × ℕ) → index ≡ Some x → IsScale x.1) → (base ≡ Some Base.Esp → ⊥)
+      → (let f : Form = record { disp = d; base = base; index = index } in goal (form_text f) ≡ None → said goal count (written (form_text f)) ≡ Some (InstArg.Address f None))
+  form_said d None None word scale other none = number_said d word none
+  form_said d (Some Base.Esp) index word scale other none = absurd (other refl)
+  form_said d (Some (Base.Reg b)) None word scale other none = operand_said d (37 ∷ reg_name b) (Some (Place.Reg b)) None word (base_inner (Disp.Number d) b) none
+  form_said d None (Some (r, n)) word scale other none = operand_said d (44 ∷ scaled_text r n) None (Some (Place.Reg r, n)) word (index_inner (Disp.Number d) r n (scale (r, n) refl)) none
+  form_said d (Some (Base.Reg b)) (Some (r, n)) word scale other none =
+      operand_said d ((37 ∷ reg_name b) ++ 44 ∷ scaled_text r n) (Some (Place.Reg b)) (Some (Place.Reg r, n)) word (pair_inner (Disp.Number d) b r n (scale (r, n) refl)) none
+
+  memory_given : (k root : ℕ) (f : Form) → IsForm f → said goal count (given k (Leaf.Memory root (Some (form_read (form_text f))))) ≡ Some (InstArg.Address f None)
+  unfolding operand_of
+  memory_given k root f is = rw (form_back f is) refl
+
+  -- an address that an operand prints is read as if it were written, where its base isn't `%esp` and it is no label
+  pub memory_as_written : (k root : ℕ) (f : Form) → IsForm f → (f.base ≡ Some Base.Esp → ⊥) → goal (form_text f) ≡ None
+      → said goal count (given k (Leaf.Memory root (Some (form_read (form_text f))))) ≡ said goal count (written (form_text f))
+  memory_as_written k root f is other none =
+      memory_given k root f is ∙ sym (form_said f.disp f.base f.index (record { low = is.low; high = is.high }) is.scale other none)
+
+-- ---- an address is no label
+
+disp_no_dot : (d : ℤ) → IsWordNumber d → lacks 46 (disp_text d) ≡ true
+disp_no_dot (pos zero) word = refl
+disp_no_dot (pos (suc n)) word = signed_pass 46 refl (digit_apart 46 (inl (omega arith))) (pos (suc n)) word
+disp_no_dot (negsuc n) word = signed_pass 46 refl (digit_apart 46 (inl (omega arith))) (negsuc n) word
+
+no_reference : (b : Bool) → (b && false) ≡ false
+no_reference true = refl
+no_reference false = refl
+
+closed_no_label : (labels : List Defined) (inst : ℕ) (front text : List ℕ) → text ≡ front ++ 41 ∷ [] → (slice_index text 0 == 46) ≡ false → goal_of labels inst text ≡ None
+unfolding goal_of
+closed_no_label labels inst front text e dot =
+    let last : slice_index text (length text - 1) ≡ 41 = rw e (last_of 41 front) in
+    rw (last, no_reference (is_reference (take (length text - 1) text)), dot) refl
+
+address_no_label : (labels : List Defined) (inst : ℕ) (d : ℤ) (text : List ℕ) → IsWordNumber d → goal_of labels inst (disp_text d ++ 40 ∷ (text ++ 41 ∷ [])) ≡ None
+address_no_label labels inst d text word =
+    closed_no_label labels inst (disp_text d ++ 40 ∷ text) (disp_text d ++ 40 ∷ (text ++ 41 ∷ [])) (sym (append_assoc (disp_text d) (40 ∷ text) (41 ∷ [])))
+    (first_of 46 (disp_text d) (text ++ 41 ∷ []) refl (disp_no_dot d word))
+
+form_no_label : (labels : List Defined) (inst : ℕ) (d : ℤ) (base : Option Base) (index : Option (Reg × ℕ)) → IsWordNumber d → goal_of labels inst (form_text (record { disp = d; base = base; index = index })) ≡ None
+form_no_label labels inst d None None word = number_no_label labels inst d word
+form_no_label labels inst d (Some b) index word = address_no_label labels inst d (registers_text (Some b) index) word
+form_no_label labels inst d None (Some x) word = address_no_label labels inst d (registers_text None (Some x)) word
+
+-- an address is no label
+pub memory_no_label : (labels : List Defined) (inst : ℕ) (f : Form) → IsForm f → goal_of labels inst (form_text f) ≡ None
+memory_no_label labels inst f is = form_no_label labels inst f.disp f.base f.index (record { low = is.low; high = is.high })
