@@ -1,22 +1,21 @@
 -- An address that an operand prints is read as the same bytes of a template would be.
-use Rattle.std.proofs.Common.{◌≡◌, inl, inr, ℕ, zero, suc, ◌+◌, ◌-◌, ◌==◌, ◌&&◌, ◌||◌, ◌<◌, nat_lt, not, ℤ, pos, negsuc, List, [], ◌∷◌, ◌++◌, length, map, take, drop, Bool, true, false, Option, None, Some, refl, ap, sym, ◌∙◌, slice_index, decimal, length-append, append_assoc, arith}
+use Rattle.std.proofs.Common.{◌≡◌, inl, inr, ℕ, zero, suc, ◌+◌, ◌-◌, ◌==◌, ◌&&◌, ◌<◌, nat_lt, ℤ, pos, negsuc, List, [], ◌∷◌, ◌++◌, length, map, take, drop, Bool, true, false, Option, None, Some, refl, ap, sym, ◌∙◌, slice_index, decimal, length-append, append_assoc, arith}
 use Rattle.std.proofs.Math.Dec.{eqb-suc-zero}
 use Rattle.std.proofs.lemmas.Bool.{lt-ltb}
 use Rattle.std.proofs.lemmas.List.{length-map}
 use Rattle.std.specs.Fmt.{signed_decimal}
-use Rattle.std.specs.Option.{option_map}
 use Rattle.std.specs.List.{prefix_len}
 use Rattle.asm_core.specs.Reg.{reg_name}
 use Rattle.asm_core.specs.Reading.Cut.{is_blank, begun}
-use Rattle.asm_core.specs.Reading.Written.{register_named, magnitude_of, number_of}
-use Rattle.asm_core.specs.Reading.Operands.{atom_code, content_len, ended, trimmed, disp_in, place_in, scale_of, scale_in, before, base_in, index_in, between, enclosed, front_disp, address_at, address_of, written_operand, operand_of}
+use Rattle.asm_core.specs.Reading.Written.{magnitude_of, number_of}
+use Rattle.asm_core.specs.Reading.Operands.{atom_code, content_len, ended, trimmed, place_in, scale_of, scale_in, before, base_in, index_in, between, enclosed, front_disp, address_at, address_of, written_operand, operand_of}
 use Rattle.asm_core.specs.Placement.{IsForm}
 use Rattle.asm_core.specs.Reading.Line.{Defined, is_reference, goal_of}
 use Rattle.asm_core.specs.Reading.Placed.{IsWordNumber}
 use Rattle.asm_core.specs.Expansion.{registers_text, disp_text, form_text}
 use Rattle.asm_core.specs.Reading.Text.{base_arg, index_arg, form_read}
 use Rattle.asm_core.proofs.ReadingLaws.AsWritten.{said, given, operand_written, first_lacks, absolute_written, signed_pass, digit_apart, number_no_label, written, wide, codes_written, no_hole_written, disp_written, wide_lacks, wide_number, first_true, both_true, all_before}
-use Rattle.asm_core.proofs.ReadingLaws.ReadBack.{lacks, lacks_case, lacks-append, number_back, name_back, form_back, IsScale, scale_word, scale_small, decimal_lacks, signed_lacks, disp_lacks, register_lacks, Cutter}
+use Rattle.asm_core.proofs.ReadingLaws.ReadBack.{lacks, lacks_case, number_back, name_back, form_back, IsScale, scale_word, scale_small, decimal_lacks, signed_lacks, disp_lacks, register_lacks, Cutter}
 use Rattle.asm_core.specs.declared.reg.Reg.{Reg}
 use Rattle.asm_core.specs.declared.sym.Place.{Place}
 use Rattle.asm_core.specs.declared.sym.Disp.{Disp}
@@ -24,7 +23,6 @@ use Rattle.asm_core.specs.declared.inst.InstArg.{InstArg}
 use Rattle.asm_core.specs.declared.placement.Base.{Base}
 use Rattle.asm_core.specs.declared.placement.Form.{Form}
 use Rattle.asm_core.specs.declared.reading.Leaf.{Leaf}
-use Rattle.asm_core.specs.declared.reading.Atom.{Atom}
 use Rattle.asm_core.specs.declared.reading.LineOperand.{LineOperand}
 
 -- ---- cuts at a byte

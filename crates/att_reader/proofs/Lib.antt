@@ -1,2 +1,3 @@
 pub mod AddressAsWritten
 pub mod Names
+pub mod RunsAsWritten
