@@ -1,3 +1,4 @@
+pub mod AddressAsWritten
 pub mod AddressLemmas
 pub mod ChosenLemmas
 pub mod CutLemmas
@@ -6,5 +7,6 @@ pub mod LineLemmas
 pub mod Names
 pub mod NumberLemmas
 pub mod OperandLemmas
+pub mod RunsAsWritten
 pub mod SeenLemmas
 pub mod TextLemmas

@@ -55,44 +55,44 @@ abbrev pub said : (List ℕ → Option (Option ℕ)) → ℕ → List Atom → O
 said goal count xs = option_and_then (arg_said count) (operand_of goal xs)
 
 -- no byte has a code that means something else
-abbrev wide : List ℕ → Bool
+abbrev pub wide : List ℕ → Bool
 wide text = list_all (λ c. nat_le 2 c) text
 
-both_true : (a b : Bool) → (a && b) ≡ true → b ≡ true
+pub both_true : (a b : Bool) → (a && b) ≡ true → b ≡ true
 both_true true b h = h
 both_true false b h = cc
 
-first_true : (a b : Bool) → (a && b) ≡ true → a ≡ true
+pub first_true : (a b : Bool) → (a && b) ≡ true → a ≡ true
 first_true true b h = refl
 first_true false b h = cc
 
 wide_code : (c : ℕ) → nat_le 2 c ≡ true → max c 2 ≡ c
 wide_code c h = let low : 2 ≤ c = grind (arith, nat_tests) in omega arith
 
-codes_written : (text : List ℕ) → wide text ≡ true → map atom_code (written text) ≡ text
+pub codes_written : (text : List ℕ) → wide text ≡ true → map atom_code (written text) ≡ text
 codes_written [] h = refl
 codes_written (c ∷ cs) h = rw (wide_code c (first_true (nat_le 2 c) (wide cs) h), codes_written cs (both_true (nat_le 2 c) (wide cs) h)) refl
 
-no_hole_written : (text : List ℕ) → hole_of (written text) ≡ Leaf.Nothing
+pub no_hole_written : (text : List ℕ) → hole_of (written text) ≡ Leaf.Nothing
 no_hole_written [] = refl
 no_hole_written (c ∷ []) = refl
 no_hole_written (c ∷ d ∷ cs) = refl
 
-operand_written : (goal : List ℕ → Option (Option ℕ)) (text : List ℕ) → operand_of goal (written text) ≡ written_operand goal (written text)
+pub operand_written : (goal : List ℕ → Option (Option ℕ)) (text : List ℕ) → operand_of goal (written text) ≡ written_operand goal (written text)
 unfolding operand_of
 operand_written goal text = rw (no_hole_written text) refl
 
-disp_written : (text : List ℕ) (z : ℤ) → wide text ≡ true → number_of text ≡ Some z → disp_in (written text) ≡ Some (Disp.Number z)
+pub disp_written : (text : List ℕ) (z : ℤ) → wide text ≡ true → number_of text ≡ Some z → disp_in (written text) ≡ Some (Disp.Number z)
 unfolding disp_in
 disp_written text z h e = rw (no_hole_written text, codes_written text h, e) refl
 
 -- ---- registers
 
-abbrev wide_or : Option (List ℕ) → Bool
+abbrev pub wide_or : Option (List ℕ) → Bool
 wide_or None = true
 wide_or (Some text) = wide text
 
-wide_names : (r : Reg) (s : Slice) → wide_or (name_of r s) ≡ true
+pub wide_names : (r : Reg) (s : Slice) → wide_or (name_of r s) ≡ true
 wide_names Eax All = refl
 wide_names Eax Low16 = refl
 wide_names Eax Low8 = refl
@@ -140,7 +140,7 @@ register_as_written goal count k fact r s name e = register_given goal count k f
 
 -- ---- numbers
 
-wide_lacks : (text : List ℕ) → lacks 0 text ≡ true → lacks 1 text ≡ true → wide text ≡ true
+pub wide_lacks : (text : List ℕ) → lacks 0 text ≡ true → lacks 1 text ≡ true → wide text ≡ true
 wide_lacks [] h k = refl
 wide_lacks (c ∷ cs) h k =
     let none = lacks_case (c == 0) (lacks 0 cs) h in
@@ -151,7 +151,7 @@ wide_lacks (c ∷ cs) h k =
     high_code : (c : ℕ) → (c == 0) ≡ false → (c == 1) ≡ false → nat_le 2 c ≡ true
     high_code c h k = grind (arith, nat_tests)
 
-wide_number : (z : ℤ) → IsWordNumber z → wide (signed_decimal z) ≡ true
+pub wide_number : (z : ℤ) → IsWordNumber z → wide (signed_decimal z) ≡ true
 wide_number z word = wide_lacks (signed_decimal z) (signed_lacks 0 z (omega arith) word) (signed_lacks 1 z (omega arith) word)
 
 immediate_written : (goal : List ℕ → Option (Option ℕ)) (count : ℕ) (z : ℤ) → IsWordNumber z → said goal count (written (36 ∷ signed_decimal z)) ≡ Some (InstArg.Number z)
@@ -168,18 +168,18 @@ pub immediate_as_written : (goal : List ℕ → Option (Option ℕ)) (count k : 
     → said goal count (given k (read_number fact (36 ∷ signed_decimal z))) ≡ said goal count (written (36 ∷ signed_decimal z))
 immediate_as_written goal count k fact z word = immediate_given goal count k fact z word ∙ sym (immediate_written goal count z word)
 
-first_lacks : (c : ℕ) (text : List ℕ) → (0 == c) ≡ false → lacks c text ≡ true → (slice_index text 0 == c) ≡ false
+pub first_lacks : (c : ℕ) (text : List ℕ) → (0 == c) ≡ false → lacks c text ≡ true → (slice_index text 0 == c) ≡ false
 first_lacks c [] other h = other
 first_lacks c (x ∷ xs) other h = (lacks_case (x == c) (lacks c xs) h).0
 
-all_before : (c : ℕ) (text : List ℕ) → lacks c text ≡ true → nat_lt (before c text) (length text) ≡ false
+pub all_before : (c : ℕ) (text : List ℕ) → lacks c text ≡ true → nat_lt (before c text) (length text) ≡ false
 all_before c [] h = refl
 all_before c (x ∷ xs) h =
     let parts = lacks_case (x == c) (lacks c xs) h in
     let rest = ltb-false (before c xs) (length xs) (all_before c xs parts.1) in
     rw (parts.0) (le-ltb (1 + before c xs) (suc (length xs)) (omega arith))
 
-absolute_written : (z : ℤ) → IsWordNumber z → address_of (written (signed_decimal z)) ≡ Some (LineOperand.Address (Disp.Number z) None None)
+pub absolute_written : (z : ℤ) → IsWordNumber z → address_of (written (signed_decimal z)) ≡ Some (LineOperand.Address (Disp.Number z) None None)
 unfolding address_of address_at
 absolute_written z word =
     let text = signed_decimal z in
@@ -216,7 +216,7 @@ digits_pass c other [] h = refl
 digits_pass c other (d ∷ ds) h = rw (other d (digit_from_value d h.0), digits_pass c other ds h.1) refl
 
 -- a number has digits and `-` alone
-signed_pass : (c : ℕ) → (45 == c) ≡ false → ((d : ℕ) → IsInRange 48 57 d → (d == c) ≡ false) → (z : ℤ) → IsWordNumber z → lacks c (signed_decimal z) ≡ true
+pub signed_pass : (c : ℕ) → (45 == c) ≡ false → ((d : ℕ) → IsInRange 48 57 d → (d == c) ≡ false) → (z : ℤ) → IsWordNumber z → lacks c (signed_decimal z) ≡ true
 signed_pass c dash other (pos n) word =
     let high : n ≤ 4294967295 = omega (arith, ints, word.high) in
     let h = decimal_is_IsNumeral n (omega arith) in
@@ -226,12 +226,12 @@ signed_pass c dash other (negsuc n) word =
     let h = decimal_is_IsNumeral (suc n) (omega arith) in
     rw (dash, digits_pass c other (decimal (suc n)) h.0.1) refl
 
-at_lacks : (c n : ℕ) (text : List ℕ) → (0 == c) ≡ false → lacks c text ≡ true → (slice_index text n == c) ≡ false
+pub at_lacks : (c n : ℕ) (text : List ℕ) → (0 == c) ≡ false → lacks c text ≡ true → (slice_index text n == c) ≡ false
 at_lacks c n [] other h = other
 at_lacks c zero (x ∷ xs) other h = (lacks_case (x == c) (lacks c xs) h).0
 at_lacks c (suc n) (x ∷ xs) other h = at_lacks c n xs other (lacks_case (x == c) (lacks c xs) h).1
 
-digit_apart : (c : ℕ) → (c < 48) ⊎ (57 < c) → (d : ℕ) → IsInRange 48 57 d → (d == c) ≡ false
+pub digit_apart : (c : ℕ) → (c < 48) ⊎ (57 < c) → (d : ℕ) → IsInRange 48 57 d → (d == c) ≡ false
 digit_apart c (inl low) d range = ne_eqb d c (λ e. absurd (omega (arith, e, range)))
 digit_apart c (inr high) d range = ne_eqb d c (λ e. absurd (omega (arith, e, range)))
 
@@ -240,7 +240,7 @@ no_reference true = refl
 no_reference false = refl
 
 -- a text without `b`, `f` and `.` names no label
-no_label_text : (labels : List Defined) (inst : ℕ) (text : List ℕ) → lacks 98 text ≡ true → lacks 102 text ≡ true → lacks 46 text ≡ true → goal_of labels inst text ≡ None
+pub no_label_text : (labels : List Defined) (inst : ℕ) (text : List ℕ) → lacks 98 text ≡ true → lacks 102 text ≡ true → lacks 46 text ≡ true → goal_of labels inst text ≡ None
 unfolding goal_of
 no_label_text labels inst text b f dot =
     let n = length text - 1 in
