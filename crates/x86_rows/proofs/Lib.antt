@@ -1,3 +1,4 @@
 pub mod Appended
+pub mod SelfRows
 pub mod Values
 pub mod Words

@@ -1,4 +1,4 @@
-use Rattle.std.proofs.Common.{◌≡◌, ◌<◌, ◌≤◌, length, arith}
+use Rattle.std.proofs.Common.{◌<◌, length, arith}
 use Rattle.x86_table.proofs.Ends.{step_goes_on}
 use Rattle.x86_table.proofs.stepping.step.Goals as goal
 
