@@ -65,6 +65,11 @@ ROWS = (
     ("xadd", "bwl", "R", "RM"),
     ("cmpxchg", "bwl", "R", "RM"),
     ("cmpxchg8b", "-", "Mq"),
+    *((f"lock {name}", "bwl", "RI", "M") for name in "add sub adc sbb and or xor".split()),
+    *((f"lock {name}", "bwl", "M") for name in "neg not inc dec".split()),
+    *((f"lock {name}", "wl", "I", "M") for name in "bts btr btc".split()),
+    *((f"lock {name}", "bwl", "R", "M") for name in "xchg xadd cmpxchg".split()),
+    ("lock cmpxchg8b", "-", "Mq"),
 )
 
 
@@ -84,6 +89,7 @@ class Operand:
 
 @dataclasses.dataclass(frozen=True)
 class Instruction:
+    # With its prefix.
     operation: str
     # `-` where the operation has no other size.
     size: str
@@ -107,7 +113,7 @@ class Instruction:
 def numbers(operation, size):
     """Numbers that stand as operands: of counts and places of bits those that turn at the width."""
     width = LETTERS.get(size, 32)
-    return (0, 1, 2, width - 1, width, width + 1, 31) if operation in COUNTING else NUMBERS[size]
+    return (0, 1, 2, width - 1, width, width + 1, 31) if operation.split()[-1] in COUNTING else NUMBERS[size]
 
 
 def written(random, kind, size):
@@ -133,28 +139,24 @@ def combinations(size, slots):
     return [kinds for kinds in itertools.product(*parts) if sum(kind == "M" for kind, _ in kinds) < 2]
 
 
-def is_apart(operands):
-    """Whether no register of an address holds another operand."""
-    address = {register for operand in operands for register, _ in operand.address}
-    return address.isdisjoint(operand.register for operand in operands if operand.kind in "RC")
-
-
 def operands_of(random, kinds, number):
     """Operands of these kinds by chance, of which a number is given."""
-    while True:
-        operands = tuple(
-            Operand("I", f"${number}", LETTERS[own]) if kind == "I" else written(random, kind, own)
-            for kind, own in kinds
-        )
-        if is_apart(operands):
-            return operands
+    return tuple(
+        Operand("I", f"${number}", LETTERS[own]) if kind == "I" else written(random, kind, own) for kind, own in kinds
+    )
 
 
 def variants(random, operation, size, kinds, count):
-    """Instructions with operands of these kinds: `count` of them, or one for each number, by chance otherwise."""
+    """Instructions with operands of these kinds: `count` of them, or one for each number, by chance otherwise.
+
+    Where all operands are registers of one size, there is one more in which they are the same.
+    """
     sizes = [own for kind, own in kinds if kind == "I"]
     choices = numbers(operation, sizes[0]) if sizes else [None] * count
-    made = (Instruction(operation, size, operands_of(random, kinds, number)) for number in choices)
+    lists = [operands_of(random, kinds, number) for number in choices]
+    if len(kinds) > 1 and set(kinds) == {("R", size)}:
+        lists.append(lists[0][:1] * len(kinds))
+    made = [Instruction(operation, size, operands) for operands in lists]
     return {instruction.text: instruction for instruction in made}.values()
 
 

@@ -150,6 +150,8 @@ def prefix_reason(statement, rows):
 
 def statement_reason(statement):
     """The first reason for which a statement isn't read."""
+    if re.search(r"[\r\v\f]", statement.text):
+        return "another white-space byte"
     if re.search("[A-Z]", re.sub(r"\b0x[0-9a-fA-F]+|\.L", "", statement.text)):
         return "a capital letter"
     for label in statement.labels:

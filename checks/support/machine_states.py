@@ -75,24 +75,23 @@ class States:
         for operand, value in zip(self.instruction.operands, values, strict=True):
             if operand.kind in "RMC":
                 put(words, operand, self.value(operand.bits) if value is None else value)
+        # A register of the address may be another operand too.
+        for operand in self.instruction.operands:
             for register, address in operand.address:
                 words[register] = address
         return words
 
     def prepare(self, words):
         """What the operation needs so that more than its common case is seen."""
-        name = self.instruction.name
+        name = self.instruction.operation.split()[-1]
         if name.startswith(("div", "idiv")):
             self.prepare_division(words)
         elif name.startswith("cmpxchg"):
             self.prepare_exchange(words)
         elif name.startswith(("loop", "jecxz")):
             words[ECX] = self.random.choice((0, 1, 2, 2**32 - 1))
-        elif self.is_string():
+        elif name in ("movs", "stos", "lods", "cmps", "scas"):
             self.prepare_string(words)
-
-    def is_string(self):
-        return self.instruction.operation.split()[-1] in ("movs", "stos", "lods", "cmps", "scas")
 
     def prepare_division(self, words):
         """A dividend whose upper half is small, of a random sign: else nearly every quotient would be too large."""
