@@ -30,7 +30,7 @@ SEED = 4
 SIZES = {"small": (2, 12, 24), "full": (5, 40, 300)}
 # A program that runs for long is stopped.
 FILE_BYTES = 300_000
-# How many differences are shown.
+# How many differences are shown, each of another row.
 SHOWN = 40
 
 
@@ -105,7 +105,8 @@ class Comparison:
         self.rows = collections.Counter()
         self.sizes = collections.Counter()
         self.open = collections.defaultdict(set)
-        self.wrong = []
+        self.wrong = 0
+        self.first_wrong = {}
 
     def add(self, instruction, state, pair, real):
         """Compares the two steps from a state with what the processor does."""
@@ -135,13 +136,16 @@ class Comparison:
 
     def differs(self, instruction, state, what):
         registers = " ".join(f"{name} {word:#x}" for name, word in zip(NAMES, state))
-        self.wrong.append(f"{instruction.text}: {what}; from {registers}, memory {packed(state[BYTES:]).hex()}")
+        text = f"{instruction.text}: {what}; from {registers}, memory {packed(state[BYTES:]).hex()}"
+        self.first_wrong.setdefault(instruction.row, text)
+        self.wrong += 1
 
     def show(self, size):
         states = self.rows if size == "full" else self.sizes
         print(filled("states", [f"{row} {count}" for row, count in states.items()]))
         print(filled("left open", [f"{name} {' '.join(sorted(bits))}" for name, bits in self.open.items()]))
-        print(*self.wrong[:SHOWN], sep="\n", end="\n" if self.wrong else "")
+        for text in list(self.first_wrong.values())[:SHOWN]:
+            print(text)
 
 
 def chosen_cases(size):
@@ -165,7 +169,7 @@ def main():
     found.show(size)
     empty = [row for row, count in found.rows.items() if not count]
     told_of = f"{len(found.rows)} rows as {len(cases)} instructions in {sum(found.rows.values())} states"
-    print(f"{told_of}: {len(found.wrong)} differ, {len(empty)} rows not compared {' '.join(empty)}".rstrip())
+    print(f"{told_of}: {found.wrong} differ, {len(empty)} rows not compared {' '.join(empty)}".rstrip())
     return 1 if found.wrong or empty else 0
 
 
