@@ -7,9 +7,9 @@ text itself, under the operation's name. That is asked of
 
 - each spelling of the table of names in each size, with each kind of operands and each prefix that the table has, all
   of which have to be read;
-- lines of the table with one thing changed, and some without a change. What the assembler takes and asmck doesn't read
-  is counted by the reason, each of which is something that is left out (checks/support/left_out.py); a line that no
-  reason explains, and a line that is read in spite of one, are wrong;
+- lines of the table with one thing changed, some without a change, and several lines with labels and jumps. What the
+  assembler takes and asmck doesn't read is counted by the reason, each of which is something that is left out
+  (checks/support/left_out.py); a line that no reason explains, and a line that is read in spite of one, are wrong;
 - asm statements whose templates name operands. gcc -m32 compiles them under -O0 and -O2 and prints where it put the
   operands. The template's lines under that placement have to be those that gcc printed.
 
@@ -120,8 +120,9 @@ def chosen_lines(chance, count):
     lines, changes = Lines(chance), Changes(chance)
     yield from lines.table()
     for _ in range(count):
-        line = lines.any_line()
-        yield changes.changed(line) if chance.random() < 0.75 else line
+        draw = chance.random()
+        line = lines.several() if draw < 0.1 else lines.any_line()
+        yield changes.changed(line) if draw > 0.3 else line
 
 
 def read_all(lines, made):

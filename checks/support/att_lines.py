@@ -117,6 +117,17 @@ class Lines:
         return self.random.choice([line, line, line, *self.prefixed(row, kinds, line)])
 
 
+    def several(self):
+        """Some lines, with labels and jumps to the nearest of them."""
+        jumps = [name for row in self.rows if row.slots[:1] == (("T", ""),) for name in row.names]
+        parts = []
+        for _ in range(self.random.randint(2, 5)):
+            goal = self.random.choice(("1b", "1f", "2b", "2f", "12b", "12f", "0f"))
+            line = f"{self.random.choice(jumps)} {goal}" if self.random.random() < 0.6 else self.any_line().text
+            parts.append(self.random.choice(("", "1:", "2: ", "12:", "1: 2:", "0:")) + line)
+        return Line(self.random.choice(("; ", ";", "\n", "\n\t")).join(parts), "several lines")
+
+
 def is_counting(name):
     """Whether a number of the instruction is a count, or the place of a bit."""
     return name in "shl sal shr sar rol ror shld shrd bt bts btr btc".split()
@@ -177,6 +188,11 @@ class Changes:
 
     def with_address(self, text):
         return self.replaced(r"(-?\w+)?\([^)]*\)|%\w+", text, OTHER_ADDRESSES)
+
+    def with_comment(self, text):
+        comment = self.random.choice(("/* a; b # c */", "/**/", " /* d */ ", "\t/*e\nf*/", "# g\n", "/* h", "*/"))
+        at = self.random.choice([0, len(text), *(it.end() for it in re.finditer(r"[\s,;:]", text))])
+        return text[:at] + comment + text[at:]
 
     def with_prefix(self, text):
         others = ("data16", "addr16", "cs", "repn", "LOCK", "rep rep", "lock lock", "rep;;", "lock # a\n", "lock 1:")

@@ -11,6 +11,7 @@ NAMES = {name + suffix for row in ROWS for name in row.names for suffix in ("", 
 PLACE = r"%e(?:[abcd]x|[sd]i|bp)"
 NUMBER = r"-?(?:0x[0-9a-fA-F]+|0b[01]+|0[0-7]*|[1-9]\d*)"
 ADDRESS = re.compile(rf"(?:{NUMBER})?\s*\(\s*(?:{PLACE}|(?:{PLACE})?\s*,\s*{PLACE}(?:\s*,\s*{NUMBER})?)\s*\)|{NUMBER}")
+COMMENT = re.compile(r"#[^\n]*|(?<![^\s;:,])/\*.*?\*/", re.S)
 GOAL = re.compile(r"(?:\d|[1-9]\d{1,3})[bf]")
 
 
@@ -37,11 +38,15 @@ def statement_of(text):
     return Statement(labels, prefixes, name, [part.strip() for part in parts], text)
 
 
+def uncommented(text):
+    """The text without its comments, of which the newlines stay."""
+    return COMMENT.sub(lambda comment: "\n" * comment[0].count("\n"), text)
+
+
 def statements_of(text):
     """The statements of a text, each with the prefixes that stand alone before it."""
-    plain = re.sub(r"#[^\n]*|/\*.*?\*/", "", text, flags=re.S)
     waiting, found = [], []
-    for it in map(statement_of, re.split("[;\n]", plain)):
+    for it in map(statement_of, re.split("[;\n]", uncommented(text))):
         if waiting and it.labels:
             found.append(Statement([], waiting, "", [], ""))
             waiting = []
@@ -179,6 +184,8 @@ def statement_reason(statement):
 
 def reason(text):
     """The first reason for which a text isn't read, None where there is none."""
+    if "/*" in uncommented(text):
+        return "a comment behind another byte, or without an end"
     return next(filter(None, map(statement_reason, statements_of(text))), None)
 
 
