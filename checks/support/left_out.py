@@ -155,8 +155,6 @@ def prefix_reason(statement, rows):
 
 def statement_reason(statement):
     """The first reason for which a statement isn't read."""
-    if re.search(r"[\r\v\f]", statement.text):
-        return "another white-space byte"
     if re.search("[A-Z]", re.sub(r"\b0x[0-9a-fA-F]+|\.L", "", statement.text)):
         return "a capital letter"
     for label in statement.labels:
@@ -186,11 +184,19 @@ def reason(text):
     """The first reason for which a text isn't read, None where there is none."""
     if "/*" in uncommented(text):
         return "a comment behind another byte, or without an end"
+    if re.search(r"[\r\v\f]", uncommented(text)):
+        return "another white-space byte"
     return next(filter(None, map(statement_reason, statements_of(text))), None)
 
 
 def refusal(text):
-    """Why the assembler refuses a text that asmck reads: numbers are taken modulo their field's width."""
+    """Why the assembler refuses a text that asmck reads.
+
+    Numbers are read modulo their field's width. And the assembler takes the blank away that stands before a comment
+    behind a prefix and a name.
+    """
+    if re.search(rf"({'|'.join(PREFIXES)})[ \t]+\w+[ \t]+/\*", text):
+        return "a comment behind a prefix and a name"
     for statement in statements_of(text):
         for row, _ in forms(statement):
             counts = row.slots and row.slots[0][0] in ("C", "RI", "I") and row.names[0] != "imul"
