@@ -186,11 +186,22 @@ def reason(text):
     """The first reason for which a text isn't read, None where there is none."""
     if "/*" in uncommented(text):
         return "a comment behind another byte, or without an end"
+<<<<<<< HEAD
+=======
+    if re.search(r"[\r\v\f]", uncommented(text)):
+        return "another white-space byte"
+>>>>>>> G/main
     return next(filter(None, map(statement_reason, statements_of(text))), None)
 
 
 def refusal(text):
-    """Why the assembler refuses a text that asmck reads: numbers are taken modulo their field's width."""
+    """Why the assembler refuses a text that asmck reads.
+
+    Numbers are read modulo their field's width. And the assembler takes the blank away that stands before a comment
+    behind a prefix and a name.
+    """
+    if re.search(rf"({'|'.join(PREFIXES)})[ \t]+\w+[ \t]+/\*", text):
+        return "a comment behind a prefix and a name"
     for statement in statements_of(text):
         for row, _ in forms(statement):
             counts = row.slots and row.slots[0][0] in ("C", "RI", "I") and row.names[0] != "imul"
