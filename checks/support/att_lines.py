@@ -119,20 +119,13 @@ class Lines:
 
     def several(self):
         """Some lines, with labels and jumps to the nearest of them."""
-<<<<<<< HEAD
-=======
         # `pause` is read as `nop`, which has another length.
         rows = [row for row in self.rows if row.names[0] not in ("nop", "pause")]
->>>>>>> G/main
         jumps = [name for row in self.rows if row.slots[:1] == (("T", ""),) for name in row.names]
         parts = []
         for _ in range(self.random.randint(2, 5)):
             goal = self.random.choice(("1b", "1f", "2b", "2f", "12b", "12f", "0f"))
-<<<<<<< HEAD
-            line = f"{self.random.choice(jumps)} {goal}" if self.random.random() < 0.6 else self.any_line().text
-=======
             line = f"{self.random.choice(jumps)} {goal}" if self.random.random() < 0.6 else self.any_line(rows).text
->>>>>>> G/main
             parts.append(self.random.choice(("", "1:", "2: ", "12:", "1: 2:", "0:")) + line)
         return Line(self.random.choice(("; ", ";", "\n", "\n\t")).join(parts), "several lines")
 

@@ -155,8 +155,6 @@ def prefix_reason(statement, rows):
 
 def statement_reason(statement):
     """The first reason for which a statement isn't read."""
-    if re.search(r"[\r\v\f]", statement.text):
-        return "another white-space byte"
     if re.search("[A-Z]", re.sub(r"\b0x[0-9a-fA-F]+|\.L", "", statement.text)):
         return "a capital letter"
     for label in statement.labels:
@@ -186,11 +184,8 @@ def reason(text):
     """The first reason for which a text isn't read, None where there is none."""
     if "/*" in uncommented(text):
         return "a comment behind another byte, or without an end"
-<<<<<<< HEAD
-=======
     if re.search(r"[\r\v\f]", uncommented(text)):
         return "another white-space byte"
->>>>>>> G/main
     return next(filter(None, map(statement_reason, statements_of(text))), None)
 
 
