@@ -1,3 +1,4 @@
 pub mod AddressAsWritten
 pub mod Names
+mod ReadingExamples
 pub mod RunsAsWritten
