@@ -1,3 +1,4 @@
+mod ReadingExamples
 pub mod AddressAsWritten
 pub mod AddressLemmas
 pub mod ChosenLemmas
