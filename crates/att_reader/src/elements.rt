@@ -25,12 +25,6 @@ fn piece_code(piece: &Piece) -> u8
     }
 }
 
-fn atom_code(atom: &Atom) -> u8
-    ensures { result ≡ atom_code atom.now }
-{
-    piece_code(&atom.piece)
-}
-
 /// The facts of operand `k`.
 fn fact_at(facts: &[Option<OperandFacts>], k: u8) -> Option<OperandFacts>
     ensures { result ≡ optional_at facts.now k }
@@ -114,7 +108,11 @@ fn atoms_of(
 pub fn codes_of(alloc: Global, atoms: &[Atom]) -> Result<Vec<u8>, AllocError>
     ensures { IfOk result (λ codes. codes.items ≡ map atom_code atoms.now) }
 {
-    atoms.iter().map(atom_code).collect(alloc)
+    let mut codes = Vec::new(alloc);
+    for atom in atoms {
+        codes.push(piece_code(&atom.piece))?;
+    }
+    Ok(codes)
 }
 
 /// The elements of pieces outside comments, under a shape.
