@@ -1,4 +1,5 @@
 pub mod AddressLemmas
+pub mod BelowLemmas
 pub mod ChosenLemmas
 pub mod CutLemmas
 pub mod ElementLemmas
