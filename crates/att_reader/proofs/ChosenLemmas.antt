@@ -11,15 +11,20 @@ use Rattle.asm_core.specs.declared.names.Choice.{Choice}
 use Rattle.att_reader.specs.Table.{row_of}
 use Rattle.att_reader.specs.declared.table.NameEntry.{NameEntry}
 
-pub choice_found : (name : List ℕ) (suffix : Option Width) (cs : List Class) (es : List NameEntry) (i : ℕ) (d : NameEntry) (c : Choice) → i < length es
-    → choice_in name suffix cs (row_of (get_or es i d)) ≡ Some c → first_choice name suffix cs (map row_of (drop i es)) ≡ Some c
+pub choice_found : (name : List ℕ) (suffix : Option Width) (cs : List Class) (es : List NameEntry) (i : ℕ)
+    (d : NameEntry) (c : Choice) → i < length es
+    → choice_in name suffix cs (row_of (get_or es i d)) ≡ Some c
+    → first_choice name suffix cs (map row_of (drop i es)) ≡ Some c
 choice_found name suffix cs es i d c lt e = rw (drop_more es i d lt, e) refl
 
-pub choice_passed : (name : List ℕ) (suffix : Option Width) (cs : List Class) (es : List NameEntry) (i : ℕ) (d : NameEntry) → i < length es
-    → choice_in name suffix cs (row_of (get_or es i d)) ≡ None → first_choice name suffix cs (map row_of (drop i es)) ≡ first_choice name suffix cs (map row_of (drop (i + 1) es))
+pub choice_passed : (name : List ℕ) (suffix : Option Width) (cs : List Class) (es : List NameEntry) (i : ℕ)
+    (d : NameEntry) → i < length es
+    → choice_in name suffix cs (row_of (get_or es i d)) ≡ None
+    → first_choice name suffix cs (map row_of (drop i es)) ≡ first_choice name suffix cs (map row_of (drop (i + 1) es))
 choice_passed name suffix cs es i d lt e = rw (drop_more es i d lt, e) refl
 
-pub choice_none : (name : List ℕ) (suffix : Option Width) (cs : List Class) (es : List NameEntry) (i : ℕ) → length es ≤ i → first_choice name suffix cs (map row_of (drop i es)) ≡ None
+pub choice_none : (name : List ℕ) (suffix : Option Width) (cs : List Class) (es : List NameEntry) (i : ℕ)
+    → length es ≤ i → first_choice name suffix cs (map row_of (drop i es)) ≡ None
 choice_none name suffix cs es i le = rw (drop_all i es le) refl
 
 pub ruleset choice_steps = (choice_found, choice_passed, choice_none)
@@ -27,11 +32,13 @@ pub ruleset choice_steps = (choice_found, choice_passed, choice_none)
 abbrev pub memory_in : List LineOperand → ℕ
 memory_in os = count_by is_memory (map class_of os)
 
-pub memory_more : (os : List LineOperand) (i : ℕ) (d : LineOperand) → i < length os → memory_in (take (i + 1) os) ≡ memory_in (take i os) + (if is_memory (class_of (get_or os i d)) then 1 else 0)
+pub memory_more : (os : List LineOperand) (i : ℕ) (d : LineOperand) → i < length os
+    → memory_in (take (i + 1) os) ≡ memory_in (take i os) + (if is_memory (class_of (get_or os i d)) then 1 else 0)
 memory_more os i d lt =
     let f : Class → ℕ = λ c. if is_memory c then 1 else 0 in
     let c = class_of (get_or os i d) in
-    ap (count_by is_memory) (map_more class_of os i d lt) ∙ (sum_by-append f (map class_of (take i os)) (c ∷ []) ∙ rw (zero-add (f c)) refl)
+    ap (count_by is_memory) (map_more class_of os i d lt)
+    ∙ (sum_by-append f (map class_of (take i os)) (c ∷ []) ∙ rw (zero-add (f c)) refl)
 
 pub memory_all : (os : List LineOperand) (i : ℕ) → length os ≤ i → memory_in (take i os) ≡ memory_in os
 memory_all os i le = rw (take_all i os le) refl
@@ -54,7 +61,8 @@ counts_one (Class.Register w count) = refl
 counts_one Class.Number = refl
 counts_one Class.Label = refl
 
-pub lock_there : (j : ℕ) (os : List LineOperand) (o : LineOperand) → slice_get os j ≡ Some o → lock_fits (Some j) (map class_of os) ≡ is_memory (class_of o)
+pub lock_there : (j : ℕ) (os : List LineOperand) (o : LineOperand) → slice_get os j ≡ Some o
+    → lock_fits (Some j) (map class_of os) ≡ is_memory (class_of o)
 lock_there j os o e =
     let there : slice_get (map class_of os) j ≡ Some (class_of o) = slice_get-map class_of os j ∙ rw e refl in
     rw (front_at (map class_of os) j (class_of o) there) (counts_one (class_of o))

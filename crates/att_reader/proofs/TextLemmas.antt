@@ -15,19 +15,26 @@ codes_front cs xs n e = rw e (take-map atom_code n xs)
 pub codes_len : (cs : List ℕ) (xs : List Atom) → cs ≡ map atom_code xs → length cs ≡ length xs
 codes_len cs xs e = rw e (length-map xs atom_code)
 
-content_suc : (cs : List ℕ) (n : ℕ) (b : Bool) → n < length cs → is_blank (get_or cs n 0) ≡ b → content_len (take (suc n) cs) ≡ cond b (content_len (take n cs)) (suc n)
+content_suc : (cs : List ℕ) (n : ℕ) (b : Bool) → n < length cs → is_blank (get_or cs n 0) ≡ b
+    → content_len (take (suc n) cs) ≡ cond b (content_len (take n cs)) (suc n)
 content_suc [] n b lt e = absurd (omega arith)
 content_suc (c ∷ cs) zero b lt e = rw e refl
-content_suc (c ∷ cs) (suc n) true lt e = let shorter : n < length cs = omega arith in rw (content_suc cs n true shorter e) refl
-content_suc (c ∷ cs) (suc n) false lt e = let shorter : n < length cs = omega arith in rw (content_suc cs n false shorter e, eqb-suc-zero n) (omega arith)
+content_suc (c ∷ cs) (suc n) true lt e =
+    let shorter : n < length cs = omega arith in
+    rw (content_suc cs n true shorter e) refl
+content_suc (c ∷ cs) (suc n) false lt e =
+    let shorter : n < length cs = omega arith in
+    rw (content_suc cs n false shorter e, eqb-suc-zero n) (omega arith)
 
-pub content_blank : (cs : List ℕ) (n : ℕ) → 0 < n → n ≤ length cs → is_blank (get_or cs (n - 1) 0) ≡ true → content_len (take (n - 1) cs) ≡ content_len (take n cs)
+pub content_blank : (cs : List ℕ) (n : ℕ) → 0 < n → n ≤ length cs → is_blank (get_or cs (n - 1) 0) ≡ true
+    → content_len (take (n - 1) cs) ≡ content_len (take n cs)
 content_blank cs n some within e =
     let here : n ≡ suc (n - 1) = omega arith in
     let step = content_suc cs (n - 1) true (omega arith) e in
     rw (ap (λ k. content_len (take k cs)) here ∙ step) refl
 
-pub content_stop : (cs : List ℕ) (n : ℕ) → 0 < n → n ≤ length cs → is_blank (get_or cs (n - 1) 0) ≡ false → content_len (take n cs) ≡ n
+pub content_stop : (cs : List ℕ) (n : ℕ) → 0 < n → n ≤ length cs → is_blank (get_or cs (n - 1) 0) ≡ false
+    → content_len (take n cs) ≡ n
 content_stop cs n some within e =
     let here : n ≡ suc (n - 1) = omega arith in
     ap (λ k. content_len (take k cs)) here ∙ (content_suc cs (n - 1) false (omega arith) e ∙ sym here)

@@ -1,6 +1,6 @@
 //! Addresses, and the displacements, registers and scales in them.
 
-ghost use Rattle.std.specs.Prelude.{◌≡◌, ◌≤◌, length, map, option_map, Some, None};
+ghost use Rattle.std.specs.Prelude.{◌≡◌, ◌≤◌, length, map};
 ghost use Rattle.asm_core.specs.Reading.Operands.{address, address_at, address_of, atom_code, base_in, before, between, disp_in, enclosed, front_disp, hole_of, index_in, indexed, place_in, register_place, scale_in, scale_of};
 ghost use Rattle.att_reader.specs.Text.{IsText};
 
@@ -171,17 +171,25 @@ fn front_disp(text: Text<'_>) -> Option<Disp>
     disp_in(text)
 }
 
-/// An address: a displacement, or `(` behind one.
-#[tactic(auto, unfolding(asm_core::specs::Reading::Operands::address_of, asm_core::specs::Reading::Operands::address_at))]
-pub fn address_of(text: Text<'_>) -> Option<LineOperand>
+/// An address; `(` stands behind `paren` elements.
+#[tactic(auto, unfolding(asm_core::specs::Reading::Operands::address_at))]
+fn address_at(text: Text<'_>, paren: usize) -> Option<LineOperand>
     requires { IsText text }
-    ensures { result ≡ address_of text.entry.atoms.now }
+    ensures { result ≡ address_at text.entry.atoms.now paren }
 {
-    let paren = before(b'(', text.codes);
     if paren < text.len() {
         let disp = front_disp(text.front(paren).ended());
         enclosed(disp, text.rest(paren + 1))
     } else {
         address(disp_in(text), Some(None), Some(None))
     }
+}
+
+/// An address: a displacement, or parentheses behind one.
+#[tactic(auto, unfolding(asm_core::specs::Reading::Operands::address_of))]
+pub fn address_of(text: Text<'_>) -> Option<LineOperand>
+    requires { IsText text }
+    ensures { result ≡ address_of text.entry.atoms.now }
+{
+    address_at(text, before(b'(', text.codes))
 }

@@ -1,6 +1,6 @@
 //! The line of the table of names that an instruction has.
 
-ghost use Rattle.std.specs.Prelude.{◌≡◌, ◌==◌, count_by, map, slice_get};
+ghost use Rattle.std.specs.Prelude.{◌≡◌, count_by, map, slice_get};
 ghost use Rattle.asm_core.specs.Reading.Chosen.{choice_in, choice_of, class_of, first_choice, if_suffix, is_memory, lock_fits, one_prefix, prefixes_fit, register_width, size_in, sized_by, suffix_width};
 ghost use Rattle.att_reader.specs.Table.{row_of};
 

@@ -1,10 +1,10 @@
 //! An instruction's reading.
 
 ghost use Rattle.std.specs.Prelude.{◌≡◌, ◌≤◌, ◌++◌, length, map, IfOk, OnOk};
-ghost use Rattle.asm_core.specs.Reading.Line.{arg_of, goal_of, label_in, line_of, line_of_operands, line_with, name_len, sym_of, target_in};
+ghost use Rattle.asm_core.specs.Reading.Line.{arg_of, label_in, line_of, line_of_operands, line_with, name_len, sym_of, target_in};
 ghost use Rattle.asm_core.specs.Reading.Names.{names};
-ghost use Rattle.att_reader.specs.Table.{row_of};
-ghost use Rattle.att_reader.specs.Text.{IsText, defined};
+ghost use Rattle.att_reader.specs.Table.{line_by, row_of};
+ghost use Rattle.att_reader.specs.Text.{IsText, goals_of};
 
 use crate::chosen::{choice_of, prefixes_fit};
 use crate::code::{is_blank, is_word};
@@ -71,7 +71,7 @@ fn line_of_operands(
 }
 
 /// The reading by those rows. A blank stands between the name and its operands.
-#[tactic(auto, unfolding(asm_core::specs::Reading::Line::line_of, asm_core::specs::Reading::Line::line_at))]
+#[tactic(auto, unfolding(asm_core::specs::Reading::Line::line_of, asm_core::specs::Reading::Line::line_at),)]
 fn read_line(
     alloc: Global,
     entries: &[NameEntry],
@@ -81,7 +81,7 @@ fn read_line(
     body: Text<'_>,
 ) -> Result<Reading, Memory>
     requires { IsText body }
-    ensures { IfOk result (λ reading. reading ≡ line_of (map row_of entries.now) (goal_of (map defined goals.now.labels.now) goals.now.inst) before.now place body.entry.atoms.now) }
+    ensures { IfOk result (λ r. r ≡ line_by entries.now (goals_of goals.now) before.now place body.entry.atoms.now) }
 {
     let len = name_len(body.codes);
     if len < body.len() && !is_blank(body.codes[len]) {
@@ -91,8 +91,8 @@ fn read_line(
     Ok(line_of_operands(entries, before, &body.codes[..len], place, operands))
 }
 
-/// The reading of an instruction with those prefixes. `place` is the offset in the file of its first byte, and `body` what stands
-/// behind the prefixes.
+/// The reading of an instruction with those prefixes. `place` is the offset in the file of its first byte, and `body`
+/// what stands behind the prefixes.
 #[tactic(auto, using(crate::proofs::LineLemmas::table_steps))]
 pub fn line_of(
     alloc: Global,
@@ -102,12 +102,12 @@ pub fn line_of(
     body: Text<'_>,
 ) -> Result<Reading, Memory>
     requires { IsText body }
-    ensures { IfOk result (λ reading. reading ≡ line_of names (goal_of (map defined goals.now.labels.now) goals.now.inst) before.now place body.entry.atoms.now) }
+    ensures { IfOk result (λ r. r ≡ line_of names (goals_of goals.now) before.now place body.entry.atoms.now) }
 {
     read_line(alloc, &NAMES, goals, before, place, body)
 }
 
-/// The operand before any placement; `count` is the number that a label has that isn't there.
+/// The operand before any placement. A label that isn't there has the number `count`.
 fn arg_of(count: u32, operand: LineOperand) -> Arg
     ensures { result ≡ arg_of count operand }
 {
@@ -121,7 +121,8 @@ fn arg_of(count: u32, operand: LineOperand) -> Arg
     }
 }
 
-/// The instruction before any placement; `count`, that of the instructions, is the number that a label has that isn't there.
+/// The instruction before any placement. A label that isn't there has the number `count`, which is that of all
+/// instructions.
 #[tactic(auto, using(std::proofs::lemmas::List::map_more))]
 pub fn sym_of(alloc: Global, count: u32, line: &Line) -> Result<Sym, Memory>
     ensures { IfOk result (λ sym. sym ≡ sym_of count line.now) }

@@ -1,6 +1,6 @@
 //! Numbers as they are written.
 
-ghost use Rattle.std.specs.Prelude.{◌≡◌, ◌≤◌, ◌<◌};
+ghost use Rattle.std.specs.Prelude.{◌≡◌, ◌≤◌};
 ghost use Rattle.asm_core.specs.Reading.Written.{as_negative, as_positive, magnitude_of, not_above, number_of, numeral_value};
 ghost use Rattle.att_reader.specs.Number.{more_digits};
 

@@ -1,9 +1,8 @@
 //! The operands of an instruction.
 
-ghost use Rattle.std.specs.Prelude.{◌≡◌, ◌≤◌, false, length, map, IfOk};
-ghost use Rattle.asm_core.specs.Reading.Line.{goal_of};
+ghost use Rattle.std.specs.Prelude.{◌≡◌, ◌≤◌, false, length, IfOk};
 ghost use Rattle.asm_core.specs.Reading.Operands.{all_some, comma_outside, operand_of, operands_of, register_operand, written_operand};
-ghost use Rattle.att_reader.specs.Text.{IsText, defined, is_comma, is_inside, operand_len};
+ghost use Rattle.att_reader.specs.Text.{IsText, goals_of, is_comma, is_inside, operand_len};
 
 use crate::address::{address_of, disp_in, hole_of};
 use crate::goals::Goals;
@@ -23,7 +22,7 @@ fn register_operand(register: Option<(Reg, Slice)>) -> Option<LineOperand>
 #[tactic(auto, unfolding(asm_core::specs::Reading::Operands::written_operand))]
 fn written_operand(goals: &Goals<'_>, text: Text<'_>) -> Option<LineOperand>
     requires { IsText text }
-    ensures { result ≡ written_operand (goal_of (map defined goals.now.labels.now) goals.now.inst) text.entry.atoms.now }
+    ensures { result ≡ written_operand (goals_of goals.now) text.entry.atoms.now }
 {
     match text.codes {
         [b'$', ..] => disp_in(text.rest(1)).map(LineOperand::Immediate),
@@ -41,7 +40,7 @@ fn written_operand(goals: &Goals<'_>, text: Text<'_>) -> Option<LineOperand>
 #[tactic(auto, unfolding(asm_core::specs::Reading::Operands::operand_of))]
 fn operand_of(goals: &Goals<'_>, text: Text<'_>) -> Option<LineOperand>
     requires { IsText text }
-    ensures { result ≡ operand_of (goal_of (map defined goals.now.labels.now) goals.now.inst) text.entry.atoms.now }
+    ensures { result ≡ operand_of (goals_of goals.now) text.entry.atoms.now }
 {
     match hole_of(text) {
         Leaf::Nothing => written_operand(goals, text),
@@ -102,7 +101,8 @@ fn operand_len(text: Text<'_>) -> usize
 /// No instruction has more operands.
 const MOST_OPERANDS: usize = 3;
 
-/// The operands as they are written, from first to last: `None` where one of them is none, or there are more than three.
+/// The operands as they are written, from first to last: `None` where one of them has no reading, or where there are
+/// more than three.
 #[tactic(auto, using(crate::proofs::OperandLemmas::operand_steps))]
 pub fn operands_of(
     alloc: Global,
@@ -110,7 +110,7 @@ pub fn operands_of(
     text: Text<'_>,
 ) -> Result<Option<Items<LineOperand>>, Memory>
     requires { IsText text }
-    ensures { IfOk result (λ operands. operands ≡ all_some (operands_of (goal_of (map defined goals.now.labels.now) goals.now.inst) text.entry.atoms.now)) }
+    ensures { IfOk result (λ operands. operands ≡ all_some (operands_of (goals_of goals.now) text.entry.atoms.now)) }
 {
     let mut operands = Items::new(alloc);
     if text.is_empty() {

@@ -35,7 +35,8 @@ const C: Option<Slot> = slot!(Count);
 /// A label.
 const T: Option<Slot> = slot!(Label);
 
-/// A row as the table keeps it: a static can't be borrowed that has arrays of structs in it.
+/// A row as the table keeps it. A constant of this length is built anew where it is used, and a static that holds arrays
+/// of structs has no proof; so the places of the operands are a tuple here.
 #[derive(Clone, Copy, Debug)]
 pub struct NameEntry {
     name: [u8; 9],

@@ -1,6 +1,6 @@
 //! Elements of a template beside their codes.
 
-ghost use Rattle.std.specs.Prelude.{◌≡◌, ◌≤◌, ◌==◌, length, take, drop, map};
+ghost use Rattle.std.specs.Prelude.{◌≡◌, ◌≤◌, ◌==◌, length, take, drop};
 ghost use Rattle.std.specs.List.{prefix_len};
 ghost use Rattle.asm_core.specs.Reading.Cut.{begun, is_blank};
 ghost use Rattle.asm_core.specs.Reading.Operands.{atom_code, content_len, ended, trimmed};
