@@ -1,6 +1,4 @@
-use Rattle.std.proofs.Common.{◌≡◌, ◌∙◌, ap, sym, arith, ◌++◌, ◌+◌, drop, append_assoc, false}
-use Rattle.asm_core.specs.Comments.{kept}
-use Rattle.asm_core.specs.Pieces.{piece_code}
+use Rattle.std.proofs.Common.{◌∙◌, sym, arith, append_assoc, false}
 use Rattle.asm_core.specs.declared.piece.Piece.{Piece}
 use Rattle.att_reader.proofs.ElementLemmas.{kept_dropped, kept_left}
 use Rattle.att_reader.proofs.elements.kept.Goals as goal

@@ -1,6 +1,5 @@
-use Rattle.std.proofs.Common.{◌≡◌, ◌≤◌, ◌∙◌, ap, sym, arith, length, map}
-use Rattle.asm_core.specs.Reading.Cut.{labels_from}
-use Rattle.asm_core.specs.Reading.Line.{readings_of, readings_from}
+use Rattle.std.proofs.Common.{◌≡◌, ◌∙◌, arith, map}
+use Rattle.asm_core.specs.Reading.Line.{readings_of}
 use Rattle.asm_core.specs.Reading.Names.{names}
 use Rattle.att_reader.specs.Raws.{raws_as}
 use Rattle.att_reader.specs.Text.{defined}

@@ -1,6 +1,5 @@
-use Rattle.std.proofs.Common.{◌≡◌, ◌≤◌, ◌∙◌, ap, sym, arith, length, map, Ok}
+use Rattle.std.proofs.Common.{◌∙◌, ap, arith}
 use Rattle.asm_core.specs.Reading.Cut.{instruction_count}
-use Rattle.asm_core.specs.Reading.Line.{lines_of_raws, template_raws, readings_of, lines_with, lines_under}
 use Rattle.asm_core.specs.Reading.Names.{names}
 use Rattle.asm_core.proofs.ReadingLaws.Law.{pieces_read_whole}
 use Rattle.att_reader.specs.Raws.{raws_as}
