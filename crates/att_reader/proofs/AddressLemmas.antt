@@ -1,6 +1,5 @@
 -- What stands in the parentheses of an address.
 use Rattle.std.proofs.Common.{◌≡◌, ◌<◌, ◌-◌, ℕ, suc, List, map, length, take, Option, slice_index, get_or, refl, arith}
-use Rattle.std.proofs.lemmas.List.{length-map}
 use Rattle.asm_core.specs.Reading.Operands.{atom_code, before, between, enclosed}
 use Rattle.asm_core.specs.declared.reading.Atom.{Atom}
 use Rattle.asm_core.specs.declared.sym.Disp.{Disp}

@@ -1,5 +1,5 @@
 -- The rows of the table one by one.
-use Rattle.std.proofs.Common.{◌≡◌, ◌∙◌, ◌<◌, ◌≤◌, ◌+◌, ◌==◌, ℕ, zero, suc, List, [], ◌∷◌, length, map, take, drop, get_or, slice_get, count_by, Option, None, Some, option_map, Bool, true, false, if◌then◌else◌, refl, ap, zero-add, arith}
+use Rattle.std.proofs.Common.{◌≡◌, ◌∙◌, ◌<◌, ◌≤◌, ◌+◌, ◌==◌, ℕ, zero, suc, List, [], ◌∷◌, length, map, take, drop, get_or, slice_get, count_by, Option, None, Some, false, if◌then◌else◌, refl, ap, zero-add}
 use Rattle.std.proofs.Math.Seq.{drop-nil}
 use Rattle.std.proofs.lemmas.Option.{slice_get-map}
 use Rattle.std.proofs.lemmas.List.{drop_more, drop_all, map_more, take_all}

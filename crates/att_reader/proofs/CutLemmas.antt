@@ -1,18 +1,17 @@
 -- One step of the cut of a template.
-use Rattle.std.proofs.Common.{◌≡◌, ℕ, zero, suc, ◌+◌, ◌-◌, ◌<◌, ◌≤◌, nat_lt, nat_le, Bool, true, false, cond, List, [], ◌∷◌, ◌++◌, length, map, take, drop, get_or, Option, None, Some, Bor, refl, sym, ap, ◌∙◌, arith, append_assoc, ◌==◌, ◌&&◌, ◌||◌, not}
+use Rattle.std.proofs.Common.{◌≡◌, ℕ, zero, suc, ◌+◌, ◌-◌, ◌<◌, ◌≤◌, nat_lt, nat_le, Bool, true, false, cond, List, [], ◌∷◌, ◌++◌, length, map, take, drop, None, Some, Bor, refl, sym, ap, ◌∙◌, arith, append_assoc, ◌==◌, ◌&&◌, ◌||◌, not}
 use Rattle.std.proofs.lemmas.List.{map-append, drop-drop, length-drop, length-map}
-use native.Mathlib.Numerals.{unary_clauses}
-use Rattle.std.proofs.lemmas.Bool.{le-leb, lt-leb}
+use Rattle.std.proofs.lemmas.Bool.{le-leb}
 use Rattle.std.proofs.lemmas.Bool.Decides.{nat_tests}
 use Rattle.std.specs.Prelude.{slice_index}
 use Rattle.std.specs.List.{prefix_len, list_any, slice_split, flat_map}
-use Rattle.asm_core.specs.Reading.Cut.{Item, Raw, Waiting, none_waits, first_or, raws_from, raws_of, same_name, is_label, is_unique_label, prefix_named, word_len, begun, item_at, items_from, items_of, ends_statement}
+use Rattle.asm_core.specs.Reading.Cut.{Item, Waiting, none_waits, first_or, raws_from, raws_of, same_name, is_label, is_unique_label, prefix_named, word_len, begun, item_at, items_from, items_of, ends_statement}
 use Rattle.asm_core.specs.Reading.Operands.{atom_code}
 use Rattle.asm_core.specs.declared.names.Prefix.{Prefix}
 use Rattle.asm_core.specs.declared.reading.Atom.{Atom}
 use Rattle.att_reader.specs.Text.{IsText}
 use Rattle.att_reader.specs.Seen.{names_seen, has_seen}
-use Rattle.att_reader.specs.Raws.{raw_as, raws_as, atoms_of, waiting_in, cut_with, Adds, EndsWaiting, IsEmpty}
+use Rattle.att_reader.specs.Raws.{raw_as, raws_as, atoms_of, cut_with, Adds, EndsWaiting, IsEmpty}
 use Rattle.att_reader.specs.declared.text.Text.{Text}
 use Rattle.att_reader.specs.declared.raw.Raw.TheVariants as raws
 use Rattle.att_reader.specs.declared.raw.Instruction.{Instruction}

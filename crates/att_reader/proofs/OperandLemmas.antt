@@ -1,5 +1,5 @@
 -- The commas between operands, and the operands one by one.
-use Rattle.std.proofs.Common.{◌≡◌, ◌∙◌, ◌<◌, ◌≤◌, ◌+◌, ◌-◌, ◌==◌, ◌&&◌, not, ℕ, zero, suc, List, [], ◌∷◌, ◌++◌, map, length, take, drop, get_or, Option, None, Some, option_map, Bool, true, false, if◌then◌else◌, nat_lt, refl, ap, sym, lt-ltb, append_assoc, arith}
+use Rattle.std.proofs.Common.{◌≡◌, ◌∙◌, ◌<◌, ◌≤◌, ◌+◌, ◌-◌, ◌==◌, ℕ, zero, suc, List, [], ◌∷◌, ◌++◌, map, length, take, drop, get_or, Option, None, Some, option_map, Bool, true, false, if◌then◌else◌, refl, sym, lt-ltb, append_assoc, arith}
 use Rattle.std.proofs.lemmas.List.{drop_more, drop_all, length-map}
 use Rattle.std.proofs.lemmas.Bool.{le-ltb}
 use Rattle.asm_core.specs.Reading.Operands.{all_some, atom_code, comma_outside, operand_of, operands_in, operands_of, trimmed}

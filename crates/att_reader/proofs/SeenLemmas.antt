@@ -1,10 +1,10 @@
 -- Which names have been seen after one more.
-use Rattle.std.proofs.Common.{◌≡◌, ℕ, Bool, true, false, List, [], ◌∷◌, map, nat_eq, Vec, refl, sym, ◌∙◌, ap, ◌||◌, not, MatchBool}
+use Rattle.std.proofs.Common.{◌≡◌, ℕ, Bool, true, false, List, [], ◌∷◌, map, Vec, refl, sym, ◌∙◌, ap, ◌||◌, not, MatchBool}
 use Rattle.std.specs.declared.alloc.Global.{Global}
 use Rattle.std.specs.List.{list_any}
 use Rattle.std.specs.List.Sorted.{IsPermutation}
 use Rattle.std.proofs.lemmas.List.Sorted.{list_any-IsPermutation}
-use Rattle.std.specs.Cmp.Lexicographic.{pointwise, same_text}
+use Rattle.std.specs.Cmp.Lexicographic.{same_text}
 use Rattle.asm_core.specs.Reading.Cut.{same_name}
 use Rattle.att_reader.specs.declared.seen.Seen.{Seen}
 use Rattle.att_reader.specs.Seen.{has_seen}

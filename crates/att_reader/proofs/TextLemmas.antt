@@ -1,5 +1,5 @@
 -- Parts of texts, and the blanks at their ends.
-use Rattle.std.proofs.Common.{◌≡◌, ◌∙◌, ◌<◌, ◌≤◌, ◌-◌, ◌+◌, ℕ, zero, suc, List, [], ◌∷◌, map, length, take, drop, get_or, Bool, true, false, cond, refl, ap, sym, arith}
+use Rattle.std.proofs.Common.{◌≡◌, ◌∙◌, ◌<◌, ◌≤◌, ◌-◌, ℕ, zero, suc, List, [], ◌∷◌, map, length, take, drop, get_or, Bool, true, false, cond, refl, ap, sym, arith}
 use Rattle.std.proofs.Math.Dec.{eqb-suc-zero}
 use Rattle.std.proofs.lemmas.List.{drop-map, take-map, length-map}
 use Rattle.asm_core.specs.Reading.Operands.{atom_code, content_len}

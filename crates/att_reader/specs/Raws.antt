@@ -1,6 +1,6 @@
 -- What the cut of a template is so far, in the words of its definition.
-use Rattle.std.specs.Prelude.{◌≡◌, ℕ, List, [], ◌++◌, map}
-use Rattle.asm_core.specs.Reading.Cut.{Raw, Item, Waiting, none_waits, raws_from}
+use Rattle.std.specs.Prelude.{◌≡◌, List, [], ◌++◌, map}
+use Rattle.asm_core.specs.Reading.Cut.{Raw, Item, Waiting, raws_from}
 use Rattle.asm_core.specs.declared.reading.Atom.{Atom}
 use Rattle.att_reader.specs.Seen.{names_seen}
 use Rattle.att_reader.specs.declared.text.Text.{Text}

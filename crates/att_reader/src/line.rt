@@ -19,7 +19,7 @@ use asm_core::{
 use std::alloc::Global;
 
 /// How many codes the name at the beginning has.
-fn name_len(codes: &[u8]) -> usize
+pub fn name_len(codes: &[u8]) -> usize
     ensures is { result ≡ name_len codes.now }
     ensures within { result ≤ length codes.now }
 {

@@ -1,50 +1,45 @@
 //! What the text of an instruction names.
 
-ghost use Rattle.std.specs.Prelude.{◌≡◌, ◌^◌, [], map, IfOk};
+ghost use Rattle.std.specs.Prelude.{◌≡◌, ◌≤◌, [], length, IfOk};
+ghost use Rattle.std.specs.List.{prefix_len};
+ghost use Rattle.asm_core.specs.Pieces.{NamesOneOf};
+ghost use Rattle.asm_core.specs.Reading.Cut.{is_word};
 ghost use Rattle.asm_core.specs.Reading.Line.{hole_bits, named_in, named_of, set_of, written_registers};
-ghost use Rattle.att_reader.specs.Named.{register_bits};
+ghost use Rattle.att_reader.specs.Named.{BodiesBelow, HolesBelow, hole_bit, named_bit, register_bit};
 ghost use Rattle.att_reader.specs.Raws.{raws_as};
 ghost use Rattle.att_reader.specs.Text.{IsText};
 
-use crate::code::is_word;
+use crate::line::name_len;
 use crate::raw::Raw;
 use crate::register::register_named;
 use crate::text::Text;
-use asm_core::{Atom, Memory, Named, Piece, Reg, RegSet};
+use asm_core::{Atom, Memory, Named, Piece, Reg, RegSet, Slice};
 use bitflags::Flags;
 use std::alloc::Global;
 
-fn register_bit(register: Reg) -> u8
-    ensures { result ≡ 2 ^ reg_number register }
+/// The bit of the register, if there is one.
+fn register_bit(register: Option<(Reg, Slice)>) -> u8
+    ensures { result ≡ register_bit register }
 {
     match register {
-        Reg::Eax => 1,
-        Reg::Ebx => 2,
-        Reg::Ecx => 4,
-        Reg::Edx => 8,
-        Reg::Esi => 16,
-        Reg::Edi => 32,
-        Reg::Ebp => 64,
+        Some((Reg::Eax, _)) => 1,
+        Some((Reg::Ebx, _)) => 2,
+        Some((Reg::Ecx, _)) => 4,
+        Some((Reg::Edx, _)) => 8,
+        Some((Reg::Esi, _)) => 16,
+        Some((Reg::Edi, _)) => 32,
+        Some((Reg::Ebp, _)) => 64,
+        None => 0,
     }
-}
-
-/// How many codes the word at the beginning has.
-fn word_len(codes: &[u8]) -> usize
-    ensures is { result ≡ prefix_len is_word codes.now }
-    ensures within { result ≤ length codes.now }
-{
-    codes.iter().take_while(|code| is_word(**code)).count()
 }
 
 /// The bit of the register whose name is the word at the beginning; 0 where it is no register's.
+#[tactic(auto, unfolding(crate::specs::Named::named_bit))]
 fn named_bit(codes: &[u8]) -> u8
     ensures { result ≡ named_bit codes.now }
 {
-    let n = word_len(codes);
-    match register_named(&codes[..n]) {
-        Some((register, _)) => register_bit(register),
-        None => 0,
-    }
+    let n = name_len(codes);
+    register_bit(register_named(&codes[..n]))
 }
 
 /// The bits of the registers that are written in the text, each behind its `%`.
@@ -54,9 +49,10 @@ fn written_bits(codes: &[u8]) -> u8
 {
     let mut bits = 0;
     for (i, code) in codes.iter().enumerate() {
-        if *code == b'%' {
-            bits |= named_bit(&codes[i + 1..]);
+        if *code != b'%' {
+            continue;
         }
+        bits |= named_bit(&codes[i + 1..]);
     }
     bits
 }
@@ -73,9 +69,10 @@ fn hole_bit(piece: Piece) -> u32
 }
 
 /// The bits of the operands that are written as holes.
+
 #[tactic(auto, using(crate::proofs::NamedLemmas::hole_steps))]
 fn hole_bits(atoms: &[Atom]) -> u32
-    requires { All (λ a. NamesOneOf 32 a.piece) atoms.now }
+    requires { HolesBelow 32 atoms.now }
     ensures { result ≡ hole_bits atoms.now }
 {
     let mut bits = 0;
@@ -88,7 +85,7 @@ fn hole_bits(atoms: &[Atom]) -> u32
 /// What the text of an instruction names.
 fn named_in(text: Text<'_>) -> Named
     requires same { IsText text }
-    requires holes { All (λ a. NamesOneOf 32 a.piece) text.atoms.now }
+    requires holes { HolesBelow 32 text.atoms.now }
     ensures { result ≡ named_in text.entry.atoms.now }
 {
     Named {
@@ -109,7 +106,7 @@ fn nothing() -> Named
 
 /// What each instruction names.
 pub fn named(alloc: Global, raws: &[Raw<'_>]) -> Result<Vec<Named>, Memory>
-    requires { All HasNumbers raws.now }
+    requires { BodiesBelow 32 (raws_as raws.now) }
     ensures { IfOk result (λ named. named.items ≡ named_of (raws_as raws.now)) }
 {
     let mut named = Vec::new(alloc);

@@ -1,4 +1,4 @@
-use Rattle.std.proofs.Common.{sym, ◌∙◌, arith, ◌≡◌, ◌≤◌, length}
+use Rattle.std.proofs.Common.{arith, ◌≤◌, length}
 use Rattle.att_reader.proofs.CutLemmas.{raws_begun, raws_more, raws_done, within_more}
 use Rattle.att_reader.proofs.cut.raws.Goals as goal
 

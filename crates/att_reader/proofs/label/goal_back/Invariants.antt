@@ -8,7 +8,7 @@ abbrev pub invariant-loop-i : goal.invariant-loop-i
 invariant-loop-i l = record {
   within : l.i ≤ length l.labels;
   whole : goal_in (reverse (map defined (take l.i l.labels))) (λ (d : Defined). defines_number l.n d && nat_le d.1 l.inst)
-    ≡ goal_in (reverse (map defined l.labels)) (λ (d : Defined). defines_number l.n d && nat_le d.1 l.inst);
+      ≡ goal_in (reverse (map defined l.labels)) (λ (d : Defined). defines_number l.n d && nat_le d.1 l.inst);
 }
 
 abbrev pub decreases-loop-i : goal.decreases-loop-i

@@ -1,4 +1,4 @@
-use Rattle.std.proofs.Common.{◌≡◌, ◌+◌, ◌≤◌, ◌++◌, map, drop}
+use Rattle.std.proofs.Common.{◌≡◌, ◌+◌, ◌++◌, drop}
 use Rattle.asm_core.specs.Reading.Cut.{instruction_count, labels_from}
 use Rattle.asm_core.specs.Reading.Line.{labels_of}
 use Rattle.att_reader.specs.Raws.{raws_as}

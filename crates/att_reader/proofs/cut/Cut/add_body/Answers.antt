@@ -1,5 +1,4 @@
-use Rattle.std.proofs.Common.{ap, rules, refl}
-use Rattle.std.proofs.lemmas.Grind.{common_steps}
+use Rattle.std.proofs.Common.{ap, refl}
 use Rattle.att_reader.proofs.CutLemmas.{body_added}
 use Rattle.att_reader.proofs.cut.Cut.add_body.Goals as goal
 

@@ -1,5 +1,5 @@
-use Rattle.std.proofs.Common.{refl, sym, ◌∙◌, arith, ◌≡◌, ◌==◌, length, true, false, Some, None}
-use Rattle.att_reader.proofs.CutLemmas.{left_whole, left_label, left_prefix, left_body, left_end, left_over, IsWord}
+use Rattle.std.proofs.Common.{refl, sym, ◌∙◌, arith}
+use Rattle.att_reader.proofs.CutLemmas.{left_label, left_prefix, left_body, left_end, left_over, IsWord}
 use Rattle.att_reader.proofs.cut.Cut.add_statement.Goals as goal
 
 pub returns-then-is_empty : goal.returns-then-is_empty
