@@ -9,5 +9,6 @@ pub mod ToPlacement
 pub mod Settled
 pub mod SoundShapes
 pub mod LeastRoom
+pub mod Lettered
 pub mod Meeting
 pub mod ListLaws

@@ -1,10 +1,10 @@
 -- Each shape of an interface is sound.
-use Rattle.std.proofs.Common.{◌≡◌, inl, inr, ℕ, List, [], ◌∷◌, ◌++◌, Bool, true, false, not, Option, None, Some, is_some, slice_get, refl, sym, ap, subst, ◌∙◌, ◌==◌, ◌||◌, if◌then◌else◌}
+use Rattle.std.proofs.Common.{◌≡◌, inl, inr, ℕ, [], ◌∷◌, ◌++◌, Bool, true, false, not, Option, None, Some, is_some, slice_get, refl, sym, ap, subst, ◌∙◌, ◌==◌, ◌||◌, if◌then◌else◌}
 use Rattle.asm_core.specs.Lists.{IsMember}
 use Rattle.asm_core.specs.Placement.{HasOperand}
 use Rattle.asm_core.specs.Shape.{letter_kinds, shapes_of}
 use Rattle.asm_core.specs.WellFormed.{IsInterface}
-use Rattle.asm_core.proofs.ShapeLaws.{IsKindFor, IsInShape, IsShape, is_shape}
+use Rattle.asm_core.proofs.ShapeLaws.{IsKindFor, IsShape, is_shape}
 use Rattle.asm_core.specs.declared.shape.Kind.{Kind}
 use Rattle.asm_core.specs.declared.shape.Kind.TheVariants.{Register, Memory, Number}
 use Rattle.asm_core.specs.declared.shape.Shape.{Shape}

@@ -72,7 +72,7 @@ memory_fits i o alt k (Some q) below free = (
   λ r m is. elim m [ inl e ↦ free q refl (subst (IsIn i.clobbers) e is) | inr none ↦ absurd none ],
 )
 
-number_fits : (o : OperandIface) (alt : AltIface) (range : ℤ × ℤ) → alt.numbers ≡ Some range → HasNumber o alt range → (known : Option ℤ) → o.known ≡ known → IsNumber alt.numbers o.known (unwrap_or known (lower_end alt.numbers))
+pub number_fits : (o : OperandIface) (alt : AltIface) (range : ℤ × ℤ) → alt.numbers ≡ Some range → HasNumber o alt range → (known : Option ℤ) → o.known ≡ known → IsNumber alt.numbers o.known (unwrap_or known (lower_end alt.numbers))
 number_fits o alt range is h None e = record {
   some = rw is refl;
   within = λ x f. let same : x ≡ range = (let both : Some x ≡ Some range = sym f ∙ is in cc) in
