@@ -2,9 +2,9 @@
 """Compares steps of instructions by the table with this machine's processor.
 
 Each instruction with each kind of operands that it may have runs on states of edge values and random ones: by a small
-program over x86_table, built without a proof by `rt try`, and natively. The bits that the table says are undefined, which
-differ by the choice, are left out. Pushed words, and what comes from outside, aren't compared. Status 0 where all agree,
-77 on a machine that has no such processor, else 1.
+program over x86_table, built without a proof by `rt try`, and natively. The bits that the table says are undefined,
+which differ by the choice, are left out. Pushed words, and what comes from outside, aren't compared. Status 0 where
+all agree, 77 on a machine that has no such processor, else 1.
 """
 import pathlib
 import platform
@@ -16,9 +16,9 @@ import tempfile
 from support.check import SKIPPED, arguments
 from support.trial import program_in, told
 
-OPS = """Mov Movzbw Movzbl Movzwl Movsbw Movsbl Movswl Lea Xchg Bswap Cltd Cwtl Nop Jmp Jecxz Loop Add Sub Adc Sbb Cmp And Or
-Xor Test Neg Not Inc Dec Mul Imul Div Idiv Clc Stc Cmc Shl Shr Sar Rol Ror Shld Shrd Bsf Bsr Bt Bts Btr Btc Movs Stos Lods
-Cmps Scas Xadd Cmpxchg Cmpxchg8b""".split()
+OPS = """Mov Movzbw Movzbl Movzwl Movsbw Movsbl Movswl Lea Xchg Bswap Cltd Cwtl Nop Jmp Jecxz Loop
+Add Sub Adc Sbb Cmp And Or Xor Test Neg Not Inc Dec Mul Imul Div Idiv Clc Stc Cmc
+Shl Shr Sar Rol Ror Shld Shrd Bsf Bsr Bt Bts Btr Btc Movs Stos Lods Cmps Scas Xadd Cmpxchg Cmpxchg8b""".split()
 CONDITIONS = "o no b ae e ne be a s ns p np l ge le g".split()
 REGISTERS = "eax ebx ecx edx esi edi ebp".split()
 BASE = 0x10000000
@@ -191,7 +191,8 @@ extern void (*stubs[])(void *);
 static sigjmp_buf back;
 static void failed(int signal) { siglongjmp(back, signal); }
 int main(void) {
-  unsigned char *memory = mmap((void *)0x10000000, 4096, PROT_READ | PROT_WRITE, MAP_PRIVATE | MAP_ANONYMOUS | MAP_FIXED, -1, 0);
+  int flags = MAP_PRIVATE | MAP_ANONYMOUS | MAP_FIXED;
+  unsigned char *memory = mmap((void *)0x10000000, 4096, PROT_READ | PROT_WRITE, flags, -1, 0);
   struct { unsigned regs[7], pad, at, pad2; unsigned long flags; } s;
   unsigned k;
   signal(SIGFPE, failed);
@@ -219,7 +220,8 @@ def native(folder, texts, runs):
     table = "\n".join(f".quad stub{k}" for k in range(len(texts)))
     (folder / "stubs.s").write_text(f".text\n{stubs}\n.data\n.globl stubs\nstubs:\n{table}\n.section .note.GNU-stack\n")
     (folder / "runner.c").write_text(RUNNER)
-    subprocess.run(["gcc", "-O1", "-no-pie", "-o", folder / "runner", folder / "runner.c", folder / "stubs.s"], check=True)
+    sources = [folder / "runner.c", folder / "stubs.s"]
+    subprocess.run(["gcc", "-O1", "-no-pie", "-o", folder / "runner", *sources], check=True)
     lines = []
     for k, (regs, flags, memory) in runs:
         bits = sum(1 << bit for j, bit in enumerate(FLAG_BITS) if flags >> j & 1)
@@ -269,7 +271,8 @@ def main():
         return 1
     wrong = [k for k in range(len(runs)) if not agrees(real[k], found[2 * k], found[2 * k + 1])]
     for k in wrong[:20]:
-        print(f"{cases[runs[k][0]][1]}: {runs[k][1]}\n  processor {real[k]}\n  table {found[2 * k]}\n     or {found[2 * k + 1]}")
+        print(f"{cases[runs[k][0]][1]}: {runs[k][1]}\n  processor {real[k]}")
+        print(f"  table {found[2 * k]}\n     or {found[2 * k + 1]}")
     print(f"{len(cases)} instructions, {len(runs)} steps, {len(wrong)} not as the processor does them")
     return 1 if wrong else 0
 
