@@ -20,46 +20,24 @@ impl Family for Every {
 
     fn row<'a>(op: Op, width: Width, operands: usize) -> &'a [MicroOp] {
         match op {
-            Op::Mov
-            | Op::Movzbw
-            | Op::Movzbl
-            | Op::Movzwl
-            | Op::Movsbw
-            | Op::Movsbl
-            | Op::Movswl
-            | Op::Lea
-            | Op::Xchg
-            | Op::Push
-            | Op::Pop
-            | Op::Bswap
-            | Op::Cmov(_)
-            | Op::Set(_)
-            | Op::Cltd
-            | Op::Cwtl
-            | Op::Nop
-            | Op::Jmp
-            | Op::J(_)
-            | Op::Jecxz
-            | Op::Loop => Moves::row(op, width, operands),
-            Op::Shl
-            | Op::Shr
-            | Op::Sar
-            | Op::Rol
-            | Op::Ror
-            | Op::Shld
-            | Op::Shrd
-            | Op::Bsf
-            | Op::Bsr
-            | Op::Bt
-            | Op::Bts
-            | Op::Btr
-            | Op::Btc => Bits::row(op, width, operands),
-            Op::Movs | Op::Stos | Op::Lods | Op::Cmps | Op::Scas | Op::Cld | Op::Std => {
-                Strings::row(op, width, operands)
-            }
-            Op::Xadd | Op::Cmpxchg | Op::Cmpxchg8b | Op::Cpuid | Op::Rdtsc => {
-                Atomics::row(op, width, operands)
-            }
+            Op::Mov | Op::Lea | Op::Xchg | Op::Push | Op::Pop | Op::Bswap => Moves::row(
+                op, width, operands,
+            ),
+            Op::Movzbw | Op::Movzbl | Op::Movzwl => Moves::row(op, width, operands),
+            Op::Movsbw | Op::Movsbl | Op::Movswl => Moves::row(op, width, operands),
+            Op::Cmov(_) | Op::Set(_) | Op::Cltd | Op::Cwtl | Op::Nop => Moves::row(
+                op, width, operands,
+            ),
+            Op::Jmp | Op::J(_) | Op::Jecxz | Op::Loop => Moves::row(op, width, operands),
+            Op::Shl | Op::Shr | Op::Sar | Op::Rol | Op::Ror => Bits::row(op, width, operands),
+            Op::Shld | Op::Shrd | Op::Bsf | Op::Bsr => Bits::row(op, width, operands),
+            Op::Bt | Op::Bts | Op::Btr | Op::Btc => Bits::row(op, width, operands),
+            Op::Movs | Op::Stos | Op::Lods | Op::Cmps | Op::Scas => Strings::row(
+                op, width, operands,
+            ),
+            Op::Cld | Op::Std => Strings::row(op, width, operands),
+            Op::Xadd | Op::Cmpxchg | Op::Cmpxchg8b => Atomics::row(op, width, operands),
+            Op::Cpuid | Op::Rdtsc => Atomics::row(op, width, operands),
             _ => Arithmetic::row(op, width, operands),
         }
     }

@@ -13,8 +13,8 @@ fn goal(goals: &[u32], k: usize) -> u32
     if k < goals.len() { goals[k] } else { 0 }
 }
 
-/// Does one step of the code: of the instruction at the machine's position. Undefined bits are taken from the choice, and
-/// what an instruction learns from outside from the words. It has ended exactly where the position is past the last
+/// Does one step of the code: of the instruction at the machine's position. Undefined bits are taken from the choice,
+/// and what an instruction learns from outside from the words. It has ended exactly where the position is past the last
 /// instruction. There, and after a fault, the machine is as before.
 pub fn step(m: &mut Machine, code: &Code, choice: u64, outside: &[u32; 4]) -> StepEnd
     requires { m.old.at + 1 < 2 ^ 32 }

@@ -5,4 +5,5 @@ use Rattle.x86_table.proofs.stepping.step.Goals as goal
 pub returns-in-Some-clause-ended : goal.returns-in-Some-clause-ended
 returns-in-Some-clause-ended c =
     let within : c.args.m.now.at < length c.args.code.now.insts = c.in-Some.ensures.within in
-    (λ e. absurd (step_goes_on c.step.result c.in-Some.inst.now c.goal.result c.args.choice c.args.outside.now c.args.m.now c.step.new.m c.step.ensures e), λ past. absurd (omega arith))
+    let goes_on = step_goes_on c.step.result c.in-Some.inst.now c.goal.result c.args.choice c.args.outside.now c.args.m.now in
+    (λ e. absurd (goes_on c.step.new.m c.step.ensures e), λ past. absurd (omega arith))
