@@ -1,6 +1,6 @@
 -- What is judged of a statement's instructions under all live shapes at once: that they have a reading, that the shapes agree on it, and
 -- that jumps stay in the block. This project's own.
-use Rattle.std.specs.Prelude.{◌≡◌, ◌⊎◌, ℕ, ◌+◌, ◌^◌, ◌==◌, ◌&&◌, ◌||◌, nat_lt, not, bit_and, bit_or, fold, find, map, is_none, option_map, slice_get, slice_index, List, [], ◌∷◌, ◌++◌, Bool, true, false, Option, None, Some, Result, Ok, Err, if◌then◌else◌}
+use Rattle.std.specs.Prelude.{◌≡◌, ◌⊎◌, ℕ, ◌+◌, ◌^◌, ◌==◌, ◌<◌, ◌≤◌, ◌&&◌, ◌||◌, nat_lt, length, All, not, bit_and, bit_or, fold, find, map, is_none, option_map, slice_get, slice_index, List, [], ◌∷◌, ◌++◌, Bool, true, false, Option, None, Some, Result, Ok, Err, if◌then◌else◌}
 use Rattle.std.specs.List.{list_any, list_all}
 use Rattle.asm_core.specs.Lists.{count_from, optional_at}
 use Rattle.asm_core.specs.Reg.{reg_number}
@@ -68,6 +68,20 @@ unfoldable pub readings_under : Interface → List Piece → List Shape → Resu
 readings_under i ps [] = Ok []
 readings_under i ps (s ∷ ss) = with_lines (lines_under names i s ps) (readings_under i ps ss)
 
+abbrev pub FailsReadings : LinesEnd → Result (List Lines) LinesEnd → Type 0
+FailsReadings LinesEnd.TooMany read = read ≡ Err LinesEnd.TooMany
+FailsReadings LinesEnd.Memory read = Unit {0}
+
+-- what an answer says of them, memory aside
+abbrev pub GivesReadings : Result (List Lines) LinesEnd → Result (List Lines) LinesEnd → Type 0
+GivesReadings (Ok xs) read = read ≡ Ok xs
+GivesReadings (Err end) read = FailsReadings end read
+
+-- what lines keep that are read
+pub record IsShort (x : Lines) : Type 0 where
+  pub insts : length x.insts ≤ 512
+  pub targets : All (λ (t : JumpTarget). t.inst < 512) x.targets
+
 -- ---- the first instruction without a reading, numbered from 0
 
 abbrev pub inst_at : ℕ → Lines → Option Sym
@@ -125,7 +139,7 @@ output_differs_at ps k None = false
 output_differs_at ps k (Some o) = is_output o.role && operand_differs ps k
 
 -- the company of an output differs
-unfoldable pub some_output_differs : Interface → List (List Places) → Bool
+abbrev pub some_output_differs : Interface → List (List Places) → Bool
 some_output_differs i ps = list_any (λ k. output_differs_at ps k (slice_get i.operands k)) (count_from 0 i.operands)
 
 -- ---- U1 at an instruction
