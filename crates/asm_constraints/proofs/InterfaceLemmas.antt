@@ -23,11 +23,11 @@ use Rattle.asm_constraints.proofs.OperandLemmas.{length-constrained_from}
 use Rattle.asm_constraints.proofs.ReadLemmas.{IsRead, constrained_from-read}
 use Rattle.asm_constraints.proofs.WellFormedLemmas.{sound_unless, AreSound, is_interface}
 
-unmarked : (mark : Option Mark) (rest : Result Interface IfaceEnd) (i : Interface) → unless_marked mark rest ≡ Ok i → rest ≡ Ok i
+pub unmarked : (mark : Option Mark) (rest : Result Interface IfaceEnd) (i : Interface) → unless_marked mark rest ≡ Ok i → rest ≡ Ok i
 unmarked None rest i e = e
 unmarked (Some mark) rest i e = cc
 
-well_formed : (made : Interface) (findings : List Finding) (i : Interface) → unless_malformed made findings ≡ Ok i → (made ≡ i) × (findings ≡ [])
+pub well_formed : (made : Interface) (findings : List Finding) (i : Interface) → unless_malformed made findings ≡ Ok i → (made ≡ i) × (findings ≡ [])
 well_formed made [] i e = let same : made ≡ i = cc in (same, refl)
 well_formed made (f ∷ fs) i e = cc
 
@@ -51,7 +51,7 @@ unfolding malformed_findings
 not_malformed ws names clobbers pieces missing k w e at =
     filter-none (is_malformed ws names clobbers pieces) ws k w (map-none malformed_operand (filter (is_malformed ws names clobbers pieces) ws) (missing_findings missing) e) at
 
-length-constrained_operands : (parts : Parts) (types : List (Option Operand)) → length (constrained_operands parts types) ≡ length parts.outputs + length parts.inputs
+pub length-constrained_operands : (parts : Parts) (types : List (Option Operand)) → length (constrained_operands parts types) ≡ length parts.outputs + length parts.inputs
 unfolding constrained_operands
 length-constrained_operands parts types = length-constrained_from (names_of parts.outputs) types 0 (parts.outputs ++ parts.inputs) ∙ length-append parts.outputs parts.inputs
 

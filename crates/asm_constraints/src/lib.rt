@@ -12,6 +12,7 @@ mod statement;
 mod symbol;
 mod symbol_kind;
 
+pub use operand::names;
 pub use statement::interface;
 
 #[cfg(test)]

@@ -1,3 +1,4 @@
+pub mod CompanyLemmas
 pub mod Filling
 pub mod Shaped
 pub mod Choices

@@ -3,12 +3,16 @@
 #![tactic(auto)]
 
 mod classes;
+mod company;
 mod goal;
 mod listing;
 mod operand;
+mod places;
 mod placing;
 mod sharing;
 
+pub use company::{same_in_register, same_of_operand};
 pub use listing::{ShapesEnd, shapes};
+pub use places::all_places;
 pub use placing::room;
 pub use sharing::may_share;

@@ -31,13 +31,13 @@ pub(crate) fn operand_in(i: &Interface, s: &Shape, k: usize) -> Option<ShapedOpe
     })
 }
 
-fn allowed_by(operand: &OperandIface, s: &Shape) -> Option<AltIface>
+pub(crate) fn allowed_by(operand: &OperandIface, s: &Shape) -> Option<AltIface>
     ensures { result ≡ slice_get operand.now.alts s.now.alternative }
 {
     operand.alts.get(s.alternative as usize).copied()
 }
 
-fn kind_at(s: &Shape, k: usize) -> Option<Kind>
+pub(crate) fn kind_at(s: &Shape, k: usize) -> Option<Kind>
     ensures { result ≡ slice_get s.now.kinds k }
 {
     s.kinds.as_slice().get(k).copied()

@@ -1,5 +1,5 @@
 -- From the answer of `check` to the theorem.
-use Rattle.std.proofs.Common.{◌≡◌, inl, inr, List, [], ◌∷◌, Bool, true, false, Option, None, Some, slice_get, if◌then◌else◌, refl, ap, sym, ◌∙◌, subst}
+use Rattle.std.proofs.Common.{◌≡◌, inl, inr, List, [], ◌∷◌, Bool, true, false, Option, None, Some, Result, Ok, Err, slice_get, if◌then◌else◌, refl, ap, sym, ◌∙◌, subst}
 use Rattle.asm_core.specs.Frame.{KeepsFrame}
 use Rattle.asm_core.specs.declared.statement.Parts.{Parts}
 use Rattle.asm_core.specs.declared.statement.Body.{Body}
@@ -9,7 +9,13 @@ use Rattle.asm_core.specs.declared.interface.Interface.{Interface}
 use Rattle.asm_core.specs.declared.sym.Sym.{Sym}
 use Rattle.blk_check.specs.FirstForm.{first_form_of}
 use Rattle.asm_core.specs.Shape.{shapes_of}
-use Rattle.blk_check.specs.Judged.{has_words, lines_in, lines_in_body, shapes_mark, no_room, IsVerdict, IsShapesVerdict, IsLinesVerdict}
+use Rattle.asm_core.specs.declared.shape.Shape.{Shape}
+use Rattle.asm_core.specs.declared.mark.Mark.{Mark}
+use Rattle.asm_core.specs.declared.finding.Finding.{Finding}
+use Rattle.asm_core.specs.declared.lines.Lines.{Lines}
+use Rattle.asm_core.specs.declared.lines.LinesEnd.{LinesEnd}
+use Rattle.blk_check.specs.Readable.{pieces_in, readings_under, first_unread, shape_findings}
+use Rattle.blk_check.specs.Judged.{has_words, lines_in, lines_in_body, shapes_mark, no_room, IsVerdict, IsShapesVerdict, IsReadingsVerdict, IsReadVerdict, IsFindingsVerdict, IsLinesVerdict}
 use Rattle.blk_check.specs.Proven.{Proven}
 use Rattle.blk_check.specs.declared.verdict.Verdict.{Verdict}
 use Rattle.blk_check.specs.Verdict.{verdict_of}
@@ -31,14 +37,27 @@ judged_frame s i lines is_lines accepted =
     let first = zeroth i.operands t.0 in
     accepted_frame i lines first.0 first.1 (first_lines s.body lines t.1) accepted
 
--- an accepted statement's lines were judged
-lines_judged : (s : Statement) (i : Interface) (proof : Proven) → IsVerdict s i (Verdict.Ok proof) → IsLinesVerdict s i (Verdict.Ok proof)
-lines_judged s i proof (inl crowded) = let no : Verdict.Ok proof ≡ Verdict.Outside (shapes_mark s) = crowded.1 in cc
-lines_judged s i proof (inr few) = go few.1
-  where
-    go : IsShapesVerdict s i (shapes_of i) (Verdict.Ok proof) → IsLinesVerdict s i (Verdict.Ok proof)
-    go (inl none) = let no : Verdict.Ok proof ≡ Verdict.Broken (no_room ∷ []) = none.1 in cc
-    go (inr judged) = judged.1
+module _ (s : Statement) (i : Interface) (proof : Proven) where
+  by_findings : (findings : List Finding) → IsFindingsVerdict s i findings (Verdict.Ok proof) → IsLinesVerdict s i (Verdict.Ok proof)
+  by_findings [] v = v
+  by_findings (f ∷ fs) v = cc
+
+  by_unread : (live : List Shape) (xs : List Lines) (unread : Option Mark) → IsReadVerdict s i live xs unread (Verdict.Ok proof) → IsLinesVerdict s i (Verdict.Ok proof)
+  by_unread live xs None v = by_findings (shape_findings i live xs) v
+  by_unread live xs (Some mark) v = cc
+
+  by_readings : (live : List Shape) (r : Result (List Lines) LinesEnd) → IsReadingsVerdict s i live r (Verdict.Ok proof) → IsLinesVerdict s i (Verdict.Ok proof)
+  by_readings live (Err end) v = cc
+  by_readings live (Ok xs) v = by_unread live xs (first_unread xs) v
+
+  by_shapes : IsShapesVerdict s i (shapes_of i) (Verdict.Ok proof) → IsLinesVerdict s i (Verdict.Ok proof)
+  by_shapes (inl none) = let no : Verdict.Ok proof ≡ Verdict.Broken (no_room ∷ []) = none.1 in cc
+  by_shapes (inr judged) = by_readings judged.1.live (readings_under i (pieces_in s.body) judged.1.live) judged.1.verdict
+
+  -- an accepted statement's lines were judged
+  lines_judged : IsVerdict s i (Verdict.Ok proof) → IsLinesVerdict s i (Verdict.Ok proof)
+  lines_judged (inl crowded) = let no : Verdict.Ok proof ≡ Verdict.Outside (shapes_mark s) = crowded.1 in cc
+  lines_judged (inr few) = by_shapes few.1
 
 -- the lines of a statement with these parts, where it is accepted
 pub ok_keeps : (s : Statement) (i : Interface) (parts : Parts) (lines : List Sym) (proof : Proven) → s.body ≡ Body.Parts parts → first_form_of parts ≡ Some lines → IsVerdict s i (Verdict.Ok proof) → KeepsFrame i lines

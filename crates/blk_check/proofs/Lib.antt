@@ -1,10 +1,15 @@
 pub mod Accepted
+pub mod AgreementLaws
 mod Examples
 pub mod FormLaws
 pub mod Frame
 pub mod KnownLaws
 mod Lines
+pub mod LiveLaws
 mod Numbers
+mod PieceLaws
+pub mod ReadingLaws
 pub mod RoomLaws
+pub mod ShortLaws
 pub mod Unique
 mod VerdictLaws

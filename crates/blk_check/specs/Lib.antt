@@ -1,4 +1,5 @@
 pub mod FirstForm
 pub mod Judged
 pub mod Proven
+pub mod Readable
 pub mod Verdict

@@ -1,9 +1,15 @@
 //! Judges a statement: accepted, or the rules that it breaks.
 #![tactic(auto)]
 
+mod agreement;
+mod differing;
 mod form;
 mod line;
+mod live;
+mod readings;
 mod room;
+mod template;
+mod unread;
 mod verdict;
 
 pub use verdict::{Proof, Verdict, check};

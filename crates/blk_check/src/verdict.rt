@@ -1,15 +1,21 @@
-ghost use Rattle.std.specs.Prelude.{◌≡◌, ◌==◌, ◌++◌, not, slice_get, IfOk, OnOk};
+ghost use Rattle.std.specs.Prelude.{◌≡◌, ◌==◌, ◌++◌, not, slice_get, All, IfOk, OnOk};
 ghost use Rattle.std.specs.List.{list_all, list_any};
 ghost use Rattle.asm_core.specs.Shape.{shapes_of};
 ghost use Rattle.asm_core.specs.WellFormed.{IsInterface};
-ghost use Rattle.blk_check.specs.Judged.{IsVerdict, IsShapesVerdict, IsLinesVerdict, OkKeepsFrame, shapes_mark, no_room, has_words, lines_in, lines_in_body};
+ghost use Rattle.blk_check.specs.Judged.{IsInterfaceOf, IsVerdict, IsShapesVerdict, IsLiveVerdict, IsReadVerdict, IsLinesVerdict, OkKeepsFrame, shapes_mark, lines_mark, no_room, has_words, lines_in, lines_in_body};
+ghost use Rattle.blk_check.specs.Readable.{IsShort, first_unread};
 ghost use Rattle.blk_check.specs.Verdict.{verdict_of, is_input_alone, finding_if, at_end, moves_to_itself, sets_flags};
 
+use crate::agreement::shape_findings;
 use crate::form::{first_form, reads};
+use crate::live::live_shapes;
+use crate::readings::readings;
 use crate::room::any_has_room;
+use crate::template::pieces_in;
+use crate::unread::first_unread;
 use asm_core::{
-    Body, Cell, Duplicate, END_LINE, Finding, Interface, Items, Mark, MarkKind, Memory, Op,
-    OperandIface, Role, Rule, Shape, Statement, Sym,
+    Body, Cell, Duplicate, END_LINE, Finding, Interface, Items, Lines, LinesEnd, Mark, MarkKind,
+    Memory, Op, OperandIface, Role, Rule, Shape, Statement, Sym,
 };
 use asm_places::{ShapesEnd, shapes};
 use std::alloc::Global;
@@ -60,7 +66,8 @@ pub enum Verdict {
 
 /// Judges a statement by its interface.
 pub fn check(alloc: Global, statement: &Statement, interface: &Interface) -> Result<Verdict, Memory>
-    requires { IsInterface interface.now }
+    requires interface { IsInterface interface.now }
+    requires stated { IsInterfaceOf interface.now statement.now }
     ensures verdict { IfOk result (IsVerdict statement.now interface.now) }
     ensures frame { IfOk result OkKeepsFrame }
 {
@@ -80,14 +87,75 @@ fn check_shapes(
     shapes: &[Shape],
 ) -> Result<Verdict, Memory>
     requires interface { IsInterface interface.now }
+    requires stated { IsInterfaceOf interface.now statement.now }
     requires shapes { shapes.now ≡ shapes_of interface.now }
     ensures verdict { IfOk result (IsShapesVerdict statement.now interface.now shapes.now) }
     ensures frame { IfOk result OkKeepsFrame }
 {
     if any_has_room(interface, shapes) {
-        return check_lines(alloc, statement, interface);
+        return check_live(alloc, statement, interface, shapes);
     }
     Ok(Verdict::Broken(Items::from_slice(alloc, &[no_room()])?))
+}
+
+/// Judges a statement by those of its shapes that have an allowed placement.
+fn check_live(
+    alloc: Global,
+    statement: &Statement,
+    interface: &Interface,
+    shapes: &[Shape],
+) -> Result<Verdict, Memory>
+    requires interface { IsInterface interface.now }
+    requires stated { IsInterfaceOf interface.now statement.now }
+    requires shapes { shapes.now ≡ shapes_of interface.now }
+    ensures verdict { IfOk result (IsLiveVerdict statement.now interface.now shapes.now) }
+    ensures frame { IfOk result OkKeepsFrame }
+{
+    let live = live_shapes(alloc, interface, shapes)?;
+    let pieces = pieces_in(alloc, statement, interface)?;
+    match readings(alloc, pieces.list.as_slice(), interface, live.as_slice()) {
+        Ok(readings) => check_readings(
+            alloc,
+            statement,
+            interface,
+            live.as_slice(),
+            readings.as_slice(),
+        ),
+        Err(LinesEnd::TooMany) => Ok(Verdict::Outside(lines_mark(statement))),
+        Err(LinesEnd::Memory) => Err(Memory),
+    }
+}
+
+/// Judges a statement by its lines under each of the live shapes.
+fn check_readings(
+    alloc: Global,
+    statement: &Statement,
+    interface: &Interface,
+    live: &[Shape],
+    readings: &[Lines],
+) -> Result<Verdict, Memory>
+    requires interface { IsInterface interface.now }
+    requires short { All IsShort readings.now }
+    ensures verdict { IfOk result (IsReadVerdict statement.now interface.now live.now readings.now (first_unread readings.now)) }
+    ensures frame { IfOk result OkKeepsFrame }
+{
+    if let Some(mark) = first_unread(readings) {
+        return Ok(Verdict::Outside(mark));
+    }
+    let findings = shape_findings(alloc, interface, live, readings)?;
+    if findings.is_empty() {
+        return check_lines(alloc, statement, interface);
+    }
+    Ok(Verdict::Broken(findings))
+}
+
+fn lines_mark(statement: &Statement) -> Mark
+    ensures { result ≡ lines_mark statement.now }
+{
+    Mark {
+        kind: MarkKind::Lines,
+        place: statement.span.from,
+    }
 }
 
 fn shapes_mark(statement: &Statement) -> Mark

@@ -1,11 +1,25 @@
 -- Verdicts, one statement at a time.
-use Rattle.std.proofs.Common.{◌≡◌, ℕ, ◌+◌, ◌<◌, ◌≤◌, List, [], ◌∷◌, ◌++◌, length, get_or, take, sym, subst, arith}
+use Rattle.std.proofs.Common.{◌≡◌, ℕ, ◌+◌, ◌<◌, ◌≤◌, List, [], ◌∷◌, ◌++◌, length, get_or, take, Bool, Option, Ok, sym, subst, arith}
 use Rattle.std.proofs.lemmas.List.{take_more, take_all}
 use Rattle.asm_core.specs.declared.statement.Statement.{Statement}
+use Rattle.asm_core.specs.declared.operand.Operand.{Operand}
+use Rattle.asm_core.specs.declared.statement.Parts.{Parts}
+use Rattle.asm_core.specs.declared.statement.Body.{Body}
+use Rattle.asm_core.specs.declared.interface.Interface.{Interface}
+use Rattle.asm_core.specs.Parts.{IsParts}
+use Rattle.asm_core.specs.Interface.{interface_of}
+use Rattle.asm_constraints.proofs.StatedLemmas.{interface_of-stated}
+use Rattle.blk_check.specs.Judged.{IsInterfaceOf}
 use Rattle.c_words.specs.File.{File}
 use Rattle.c_scopes.specs.Seen.{Declared}
 use Rattle.ck_app.specs.Judgement.{IsJudged, AreJudged}
 use Rattle.ck_app.specs.declared.judgement.Judged.{Judged}
+
+-- what an interface says of its statement
+pub stated : (s : Statement) (parts : Parts) (types : List (Option Operand)) (strict : Bool) (i : Interface) → s.body ≡ Body.Parts parts → IsParts parts → interface_of parts types strict ≡ Ok i → IsInterfaceOf i s
+stated s parts types strict i body whole e =
+    let h = interface_of-stated parts types strict i e in
+    record { parts = parts; pieces = h.pieces; has_parts = body; are_parts = whole; has_pieces = h.has_pieces; count = h.count }
 
 module _ (f : File) (seen : Declared) where
   pub judged-none : AreJudged f seen [] []

@@ -3,6 +3,7 @@
 ghost use Rattle.std.specs.Prelude.{◌≡◌, ◌++◌, map, length, IfOk, OnOk, All};
 ghost use Rattle.std.specs.List.{list_any};
 ghost use Rattle.asm_core.specs.Parts.{IsParts, IsBody};
+ghost use Rattle.asm_core.specs.declared.statement.Body.{Body};
 ghost use Rattle.c_tokens.specs.Cut.{IsOrdered};
 ghost use Rattle.c_exprs.specs.Operands.{operand_of};
 ghost use Rattle.ck_app.specs.Answer.{status_of};
@@ -67,6 +68,7 @@ fn judge_statement(
 }
 
 /// The verdict on a statement that has these parts.
+#[tactic(auto, using(crate::proofs::JudgementLaws::stated))]
 fn judge_parts(
     alloc: Global,
     source: &Source<'_>,
@@ -76,6 +78,7 @@ fn judge_parts(
 ) -> Result<Verdict, Memory>
     requires ordered { IsOrdered 0 source.now.tokens (length source.now.text) }
     requires parts { IsParts parts.now }
+    requires body { statement.now.body ≡ Body.Parts parts.now }
     ensures { IfOk result (IsVerdictBy statement.now (interface_in source.now scopes.now parts.now)) }
 {
     let operands = operands(alloc, source, scopes, parts)?;
