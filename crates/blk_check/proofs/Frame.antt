@@ -25,7 +25,6 @@ use Rattle.asm_core.proofs.Keeping.{keeps_refl, keeps_trans, keeps_weaken, holds
 use Rattle.asm_core.proofs.StepLaws.{ended_holds, step_changes}
 use Rattle.asm_core.proofs.MachineLaws.{AreWords, word_small, step_words}
 use Rattle.asm_core.proofs.RegisterLaws.{own_value_kept}
-use Rattle.asm_core.specs.declared.reg.Reg.{Reg}
 use Rattle.asm_core.specs.declared.reg.Slice.{Slice}
 use Rattle.asm_core.specs.declared.flag.Flag.{Flag}
 use Rattle.asm_core.specs.declared.flag.Flag.TheVariants.{Cf, Pf, Af, Zf, Sf, Of}

@@ -1,9 +1,7 @@
 //! The lines of a template under each shape.
 
 ghost use Rattle.std.specs.Prelude.{◌≡◌, length, All, IfOk};
-ghost use Rattle.asm_core.specs.Lists.{IsMember};
 ghost use Rattle.asm_core.specs.Pieces.{ArePieces};
-ghost use Rattle.asm_core.specs.Shape.{shapes_of};
 ghost use Rattle.asm_core.specs.WellFormed.{IsInterface};
 ghost use Rattle.blk_check.specs.Readable.{GivesReadings, IsShort, readings_under};
 
@@ -23,7 +21,6 @@ pub fn readings(
 ) -> Result<Items<Lines>, LinesEnd>
     requires interface { IsInterface interface.now }
     requires pieces { ArePieces (length interface.now.operands) pieces.now }
-    requires shapes { All (λ (s : Shape). IsMember s (shapes_of interface.now)) shapes.now }
     ensures is { GivesReadings result (readings_under interface.now pieces.now shapes.now) }
     ensures short { IfOk result (All IsShort) }
 {
@@ -39,7 +36,6 @@ fn read_all(
 ) -> Result<Items<Lines>, LinesEnd>
     requires interface { IsInterface interface.now }
     requires pieces { ArePieces (length interface.now.operands) pieces.now }
-    requires shapes { All (λ (s : Shape). IsMember s (shapes_of interface.now)) shapes.now }
     ensures { GivesReadings result (readings_under interface.now pieces.now shapes.now) }
 {
     let mut readings = Items::new(alloc);
