@@ -32,9 +32,7 @@ pub fn places_under(
 fn some_other(register: Reg, first: &[Places], others: &[Items<Places>]) -> bool
     ensures { result ≡ list_any (λ q. not (same_in_register register first.now q)) others.now }
 {
-    others
-        .iter()
-        .any(|other| !same_in_register(register, first, other.as_slice()))
+    others.iter().any(|other| !same_in_register(register, first, other.as_slice()))
 }
 
 /// Whether the register's company differs between two of the shapes.
