@@ -1,5 +1,5 @@
 -- From the answer of `check` to the theorem.
-use Rattle.std.proofs.Common.{◌≡◌, inl, inr, List, [], ◌∷◌, Bool, true, false, Option, None, Some, Result, Ok, Err, slice_get, if◌then◌else◌, refl, ap, sym, ◌∙◌, subst}
+use Rattle.std.proofs.Common.{◌≡◌, inl, inr, List, [], ◌∷◌, true, Option, None, Some, Result, Ok, Err, slice_get, refl, ap, ◌∙◌, subst}
 use Rattle.asm_core.specs.Frame.{KeepsFrame}
 use Rattle.asm_core.specs.declared.statement.Parts.{Parts}
 use Rattle.asm_core.specs.declared.statement.Body.{Body}

@@ -1,5 +1,5 @@
 -- What the lines of a statement in the first form are.
-use Rattle.std.proofs.Common.{◌≡◌, ◌⊎◌, inl, inr, ⊎_elim, ℕ, zero, suc, ◌+◌, ◌-◌, ◌*◌, ◌≤◌, ◌==◌, nat_le, nat_lt, ◌&&◌, pos, List, [], ◌∷◌, ◌++◌, map, length, drop, codes, Bool, true, false, Option, None, Some, option_map, slice_get, slice_index, slice_range, if◌then◌else◌, refl, sym, subst, arith}
+use Rattle.std.proofs.Common.{◌≡◌, ◌⊎◌, inl, inr, ⊎_elim, ℕ, zero, suc, ◌+◌, ◌-◌, ◌*◌, ◌≤◌, ◌==◌, nat_le, nat_lt, ◌&&◌, pos, List, [], ◌∷◌, length, drop, codes, Bool, true, false, Option, None, Some, option_map, slice_get, slice_index, slice_range, if◌then◌else◌, refl, sym, subst, arith}
 use Rattle.std.specs.Char.{is_ascii_digit}
 use Rattle.std.proofs.lemmas.Bool.{leb-true}
 use Rattle.asm_core.specs.declared.inst.Op.{Op}

@@ -2,7 +2,6 @@
 use Rattle.std.proofs.Common.{◌≡◌, ℕ, List, [], ◌∷◌, map, true, false, Option, None, Some, refl}
 use Rattle.asm_core.specs.Reg.{no_regs}
 use Rattle.asm_core.specs.Company.{places_of, all_places, same_company}
-use Rattle.asm_core.specs.declared.reg.RegSet.{RegSet}
 use Rattle.asm_core.specs.declared.inst.Op.{Op}
 use Rattle.asm_core.specs.declared.inst.Width.{Width}
 use Rattle.asm_core.specs.declared.inst.Repeat.{Repeat}
@@ -16,7 +15,6 @@ use Rattle.asm_core.specs.declared.interface.OperandIface.{OperandIface}
 use Rattle.asm_core.specs.declared.interface.Interface.{Interface}
 use Rattle.asm_core.specs.declared.finding.Rule.{Rule}
 use Rattle.asm_core.specs.declared.finding.Cell.{Cell}
-use Rattle.asm_core.specs.declared.lines.JumpTarget.{JumpTarget}
 use Rattle.asm_core.specs.declared.lines.Lines.{Lines}
 use Rattle.blk_check.specs.Readable.{first_unread, differing, u1_line, j1_line, shape_findings}
 

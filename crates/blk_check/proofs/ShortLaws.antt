@@ -1,8 +1,8 @@
 -- A template that has lines has at most 512 of them.
-use Rattle.std.proofs.Common.{◌≡◌, ℕ, suc, ◌+◌, ◌<◌, ◌≤◌, nat_lt, List, [], ◌∷◌, ◌++◌, map, length, Bool, true, false, Option, None, Some, Result, Ok, Err, IfOk, All, if◌then◌else◌, refl, sym, ap, ◌∙◌, subst, arith}
+use Rattle.std.proofs.Common.{◌≡◌, ℕ, ◌+◌, ◌<◌, ◌≤◌, nat_lt, List, [], ◌∷◌, length, Bool, true, false, Option, None, Some, Result, Ok, Err, IfOk, All, if◌then◌else◌, refl, sym, subst, arith}
 use Rattle.std.proofs.lemmas.Bool.{ltb-false}
 use Rattle.std.proofs.lemmas.List.{length-map}
-use Rattle.std.proofs.lemmas.List.Elements.{All-nil, All-cons, All-append, All-map}
+use Rattle.std.proofs.lemmas.List.Elements.{All-nil, All-cons, All-append}
 use Rattle.asm_core.specs.Reading.Cut.{Raw, instruction_count, labels_from}
 use Rattle.asm_core.specs.Reading.Line.{Defined, Reading, readings_from, readings_of, label_in, onto_targets, target_in, target_of, targets_from, inst_of_reading, lines_of_raws, lines_under, lines_with, template_raws}
 use Rattle.asm_core.specs.Reading.Names.{names}

@@ -1,5 +1,5 @@
 -- A statement with its interface has one verdict.
-use Rattle.std.proofs.Common.{◌≡◌, ◌≢◌, ◌⊎◌, inl, inr, ◌<◌, ◌≤◌, List, [], ◌∷◌, length, Option, None, Some, Result, Ok, Err, refl, sym, ◌∙◌, ap, subst, arith}
+use Rattle.std.proofs.Common.{◌≡◌, inl, inr, List, [], ◌∷◌, Option, None, Some, Result, Ok, Err, refl, sym, ◌∙◌, ap, subst, arith}
 use Rattle.asm_core.specs.Shape.{shapes_of}
 use Rattle.asm_core.specs.declared.statement.Statement.{Statement}
 use Rattle.asm_core.specs.declared.interface.Interface.{Interface}
@@ -9,7 +9,7 @@ use Rattle.asm_core.specs.declared.sym.Sym.{Sym}
 use Rattle.asm_core.specs.declared.mark.Mark.{Mark}
 use Rattle.asm_core.specs.declared.lines.Lines.{Lines}
 use Rattle.asm_core.specs.declared.lines.LinesEnd.{LinesEnd}
-use Rattle.blk_check.specs.Judged.{lines_in, shapes_mark, no_room, IsVerdict, IsShapesVerdict, IsLiveVerdict, IsReadingsVerdict, IsReadVerdict, IsFindingsVerdict, IsLinesVerdict}
+use Rattle.blk_check.specs.Judged.{IsVerdict, IsShapesVerdict, IsLiveVerdict, IsReadingsVerdict, IsReadVerdict, IsFindingsVerdict, IsLinesVerdict}
 use Rattle.blk_check.specs.Readable.{pieces_in, readings_under, first_unread, shape_findings}
 use Rattle.blk_check.proofs.LiveLaws.{live_unique}
 use Rattle.blk_check.specs.Proven.{Proven}

@@ -1,6 +1,6 @@
-use Rattle.std.proofs.Common.{subst, sym, refl}
+use Rattle.std.proofs.Common.{subst, refl}
 use Rattle.asm_core.specs.Lists.{IsMember}
-use Rattle.blk_check.proofs.RoomLaws.{member_at, none_so_far, some_there, none_there}
+use Rattle.blk_check.proofs.RoomLaws.{member_at, none_so_far, some_there}
 use Rattle.blk_check.proofs.room.any_has_room.Goals as goal
 
 pub loop-shape-preserved : goal.loop-shape-preserved
