@@ -10,6 +10,7 @@ mod Numbers
 mod PieceLaws
 pub mod ReadingLaws
 pub mod RoomLaws
+mod ShapeExamples
 pub mod ShortLaws
 pub mod Unique
 mod VerdictLaws
