@@ -2,6 +2,7 @@ ghost use Rattle.std.specs.Prelude.{◌≡◌, ◌+◌, ◌<◌, ◌≤◌, ◌^
 ghost use Rattle.asm_core.specs.Rows.{IsStepOf};
 ghost use Rattle.asm_core.specs.Run.{step_of};
 ghost use Rattle.asm_core.specs.declared.row.StepEnd.{StepEnd};
+ghost use Rattle.x86_table.specs.TableLaws.{ObeysTable};
 
 use crate::every::{AnyRow, Every};
 use asm_core::{Code, Machine, Row, StepEnd};
@@ -15,11 +16,14 @@ fn goal(goals: &[u32], k: usize) -> u32
 
 /// Does one step of the code: of the instruction at the machine's position. Undefined bits are taken from the choice, and
 /// what an instruction learns from outside from the words. It has ended exactly where the position is past the last
-/// instruction. There, and after a fault, the machine is as before.
+/// instruction. There, and after a fault, the machine is as before. The lines of the table obey the laws that any row does,
+/// where a repeated instruction is over too, and where names are told by a row of their own.
+#[tactic(auto, using(crate::proofs::TableObeys::obeys_table))]
 pub fn step(m: &mut Machine, code: &Code, choice: u64, outside: &[u32; 4]) -> StepEnd
     requires { m.old.at + 1 < 2 ^ 32 }
     ensures is { IsStepOf result (step_of code.now choice outside.now m.old) m.old m.new }
     ensures ended { (result ≡ StepEnd.Ended) ↔ (length code.now.insts ≤ m.old.at) }
+    ensures laws { ObeysTable }
 {
     let position = m.at as usize;
     match code.insts.get(position) {
