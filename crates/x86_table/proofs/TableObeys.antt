@@ -1,5 +1,6 @@
 -- The laws of the table's lines together.
 use Rattle.x86_table.specs.TableLaws.{ObeysTable}
+use Rattle.x86_table.proofs.ShiftSteps.{shift_steps, shift_writes}
 use Rattle.x86_table.proofs.OverLaws.{line_leaves, line_agrees}
 use Rattle.x86_table.proofs.SelfSteps.{self_steps}
 

@@ -18,7 +18,7 @@ after_condition : (c : Cond) (op : MicroOp) (vs : List ℕ) → is_turn op.targe
 after_condition Cond.O op vs none = ap (λ t. t && is_zero (slice_index vs 3) || false) none
 after_condition c op vs none = ap (λ t. t && is_zero (slice_index vs 3) || false) none
 
-never_over : (op : Op) (w : Width) (n : ℕ) (vs : List ℕ) → is_over (row_of op w n) vs ≡ false
+pub never_over : (op : Op) (w : Width) (n : ℕ) (vs : List ℕ) → is_over (row_of op w n) vs ≡ false
 never_over (Op.Cmov c) w n vs = after_condition c (op3 (to_arg 1) Function.Pick (Input.Earlier 2) (arg 0) (arg 1)) vs refl
 never_over (Op.Set c) w n vs = after_condition c (op1 (to_arg 0) Function.Value (Input.Earlier 2)) vs refl
 never_over (Op.J c) w n vs = after_condition c (op1 Target.Jump Function.Value (Input.Earlier 2)) vs refl
