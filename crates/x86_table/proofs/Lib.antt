@@ -1,8 +1,8 @@
 pub mod Ends
+pub mod EntryLaws
 pub mod Idle
 pub mod OverLaws
 pub mod SelfSteps
 pub mod ShiftSteps
-pub mod TableObeys
 pub mod TableTurns
 pub mod Turns

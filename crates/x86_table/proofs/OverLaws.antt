@@ -2,25 +2,25 @@
 use Rattle.std.proofs.Common.{◌≡◌, inl, inr, ◌⊎◌, ℕ, zero, suc, ◌+◌, ◌*◌, ◌/◌, ◌%◌, ◌^◌, ◌<◌, ◌≤◌, not, List, [], ◌∷◌, length, slice_get, slice_index, Bool, true, false, if◌then◌else◌, Option, None, Some, refl, ap, sym, subst, ◌∙◌, arith}
 use Rattle.std.specs.List.{list_all}
 use Rattle.std.proofs.lemmas.Option.{slice_get_past}
-use Rattle.asm_core.specs.Entries.{slice_with, arg_or_zero, line_arg, first_in_name, is_write, known_in, write_to_site, write_of, write_to, by_of}
+use Rattle.asm_core.specs.Entries.{slice_with, arg_or_zero, line_arg, first_in_name, is_write, known_in, write_to_site, write_of, writes_of, write_to, by_of}
 use Rattle.asm_core.specs.Flag.{flag_in}
 use Rattle.asm_core.specs.Function.{bits_of, bit}
 use Rattle.asm_core.specs.Machine.{IsMachine, reg_in, byte_at}
 use Rattle.asm_core.specs.Memory.{address_of}
 use Rattle.asm_core.specs.MicroOps.{Stepped, first_of, count_of, sized, bytes_named, within, arg_at, read_arg, read_site, read_in, values_of, is_good_op, is_over, divides, takes_outside, moved, written, row_ended}
 use Rattle.asm_core.specs.Reading.Placed.{operand_under, operand_at, inst_under}
-use Rattle.asm_core.specs.RowLaws.{Component, component_in, byte_of, nth_byte, operand_byte, written_byte, held, FitsOperand, FitsSite, FitsTarget, FitsTargets, LeavesValues}
+use Rattle.asm_core.specs.RowLaws.{Component, component_in, byte_of, nth_byte, operand_byte, written_byte, held, byte_by, ChangesOnly, IsToldByOne, FitsOperand, FitsSite, FitsTarget, FitsTargets, FitsCopies, LeavesValues, LeavesCopies}
 use Rattle.asm_core.specs.Rows.{line_row}
 use Rattle.asm_core.specs.Steps.{IsAfter, Stand, reads_at, AgreesOnWrites}
 use Rattle.asm_core.proofs.BytesRead.{part_byte, word_byte}
-use Rattle.asm_core.proofs.CopyLaws.{leaves_values}
+use Rattle.asm_core.proofs.CopyLaws.{leaves_values, leaves_copies}
 use Rattle.asm_core.proofs.DecideLaws.{holds_of}
 use Rattle.asm_core.proofs.FactLaws.{names_decide, reads_known}
 use Rattle.asm_core.proofs.StepLaws.{at_kept}
-use Rattle.asm_core.proofs.WriteLaws.{within_first, within_count, sized_first, sized_count}
-use Rattle.x86_table.specs.TableLaws.{IsStepped, ObeysTable}
+use Rattle.asm_core.proofs.WriteLaws.{within_first, within_count, sized_first, sized_count, changes_what_is_told}
+use Rattle.x86_table.specs.TableLaws.{IsStepped, TellsSteps}
 use Rattle.x86_table.proofs.Turns.{Guards, IsTurnRow, kept_value}
-use Rattle.x86_table.proofs.TableTurns.{HasTurn, has_turn}
+use Rattle.x86_table.proofs.TableTurns.{HasTurn}
 use Rattle.asm_core.specs.declared.flag.Flag.{Flag}
 use Rattle.asm_core.specs.declared.reg.Reg.{Reg}
 use Rattle.asm_core.specs.declared.reg.Slice.{Slice}
@@ -169,9 +169,6 @@ module _ (p : Placement) (s : Sym) (m : Machine) (is_machine : IsMachine m) (few
       by_turn (inl never) = goes_on (never vs)
       by_turn (inr (n, turn)) = by_over n turn (is_over row vs) refl
 
-pub line_leaves : (s : Sym) → length s.args ≤ 3 → (x : Stand) → IsStepped s x → LeavesValues x.at s (line_row s) (values_of s.width (reads_at s x) (line_row s)) x.before x.after
-line_leaves s few x stepped = row_leaves x.at s x.before stepped.is_machine few (line_row s) x.goal x.choice x.words x.after (has_turn s.repeat s.op s.width (length s.args)) stepped.fits stepped.step
-
 -- ---- two steps
 
 operand_held : (x : Option InstArg) (m : Machine) (o v : ℕ) (c : Component) → operand_byte x o m ≡ Some c → held c v ≡ v
@@ -190,10 +187,61 @@ held_as p m (Written.Arg arg) o v c is = operand_held (operand_under p arg) m o 
 held_as p m Written.Push o v c is = let same : Component.ScratchByte (4 * m.scratch_top + o) ≡ c = cc in ap (λ x. held x v) (sym same)
 held_as p m Written.Pop o v c is = cc
 
-pub line_agrees : (s : Sym) → length s.args ≤ 3 → (x y : Stand) → IsStepped s x → IsStepped s y → AgreesOnWrites (line_row s) s x y
-line_agrees s few x y stepped_x stepped_y k o w c d last_x last_y agrees =
-    line_leaves s few x stepped_x k o w c last_x
-    ∙ ap (λ v. held c (nth_byte o v)) ((names_decide (line_row s) s.width (known_in s)).values (reads_at s x) (reads_at s y) k ((reads_known x.at s few).each x.choice x.words x.before) ((reads_known y.at s few).each y.choice y.words y.before) agrees)
-    ∙ held_as x.at x.before w.to (w.first + o) (nth_byte o (slice_index (values_of s.width (reads_at s y) (line_row s)) k)) c last_x.here
-    ∙ sym (held_as y.at y.before w.to (w.first + o) (nth_byte o (slice_index (values_of s.width (reads_at s y) (line_row s)) k)) d last_y.here)
-    ∙ sym (line_leaves s few y stepped_y k o w d last_y)
+-- ---- a row that steps as the line's does
+
+-- A line's step is by that row too, whose operands are there where those of the line's row are.
+pub record Serves (s : Sym) (row : List MicroOp) : Type 0 where
+  pub turn : HasTurn row
+  pub fits : (p : Placement) → FitsTargets p s (line_row s) → FitsTargets p s row
+  pub copies : (p : Placement) → FitsCopies p s (line_row s) → FitsCopies p s row
+  pub step : (x : Stand) → IsAfter (row_ended (line_row s) (inst_under x.at s) x.goal x.choice x.words x.before) x.after → IsAfter (row_ended row (inst_under x.at s) x.goal x.choice x.words x.before) x.after
+
+module _ (s : Sym) (row : List MicroOp) (few : length s.args ≤ 3) (serves : Serves s row) where
+  changes : (x : Stand) → IsStepped s x → ChangesOnly (IsToldByOne x.at x.before (writes_of row s)) x.before x.after
+  changes x stepped =
+      holds_of (ChangesOnly (IsToldByOne x.at x.before (writes_of row s)) x.before) (row_ended row (inst_under x.at s) x.goal x.choice x.words x.before) x.after
+      (changes_what_is_told x.at s x.before row x.goal x.choice x.words (serves.fits x.at stepped.fits)) (serves.step x stepped.step)
+
+  values : (x : Stand) → IsStepped s x → LeavesValues x.at s row (values_of s.width (reads_at s x) row) x.before x.after
+  values x stepped = row_leaves x.at s x.before stepped.is_machine few row x.goal x.choice x.words x.after serves.turn (serves.fits x.at stepped.fits) (serves.step x stepped.step)
+
+  agrees : (x y : Stand) → IsStepped s x → IsStepped s y → AgreesOnWrites row s x y
+  agrees x y stepped_x stepped_y k o w c d last_x last_y agree =
+      values x stepped_x k o w c last_x
+      ∙ ap (λ v. held c (nth_byte o v)) ((names_decide row s.width (known_in s)).values (reads_at s x) (reads_at s y) k ((reads_known x.at s few).each x.choice x.words x.before) ((reads_known y.at s few).each y.choice y.words y.before) agree)
+      ∙ held_as x.at x.before w.to (w.first + o) (nth_byte o (slice_index (values_of s.width (reads_at s y) row) k)) c last_x.here
+      ∙ sym (held_as y.at y.before w.to (w.first + o) (nth_byte o (slice_index (values_of s.width (reads_at s y) row) k)) d last_y.here)
+      ∙ sym (values y stepped_y k o w d last_y)
+
+  -- what a guarded write leaves is no copy
+  none_copied : (n : ℕ) → IsTurnRow n row → (x : Stand) → LeavesCopies x.at s row x.before x.after
+  none_copied n turn x k o w c b last is =
+      let guards = turn.writes k last.op last.is_op (is_a_write s last.op w last.is_write) in
+      let named : Some (write_to_site s By.Named guards.site) ≡ Some w = sym (ap (write_of s) guards.is) ∙ last.is_write in
+      let same : write_to_site s By.Named guards.site ≡ w = cc in
+      absurd (nothing guards.site (subst (λ (x : Write). byte_by x_at before x.by o ≡ Some b) (sym same) is))
+    where
+      x_at : Placement
+      x_at = x.at
+
+      before : Machine
+      before = x.before
+
+      nothing : (site : Site) → byte_by x.at x.before (write_to_site s By.Named site).by o ≡ Some b → ⊥
+      nothing (Site.Argument k bytes) e = cc
+      nothing (Site.Register r bytes) e = cc
+      nothing (Site.Pointed r) e = cc
+      nothing (Site.Flag f) e = cc
+
+  copies : (x : Stand) → IsStepped s x → FitsCopies x.at s (line_row s) → LeavesCopies x.at s row x.before x.after
+  copies x stepped enough = by_turn serves.turn
+    where
+      by_turn : HasTurn row → LeavesCopies x.at s row x.before x.after
+      by_turn (inl never) =
+          holds_of (LeavesCopies x.at s row x.before) (row_ended row (inst_under x.at s) x.goal x.choice x.words x.before) x.after
+          (leaves_copies x.at s x.before row x.goal x.choice x.words stepped.is_machine (serves.fits x.at stepped.fits) (serves.copies x.at enough) (never (values_of s.width (reads_at s x) row)))
+          (serves.step x stepped.step)
+      by_turn (inr (n, turn)) = none_copied n turn x
+
+  pub tells_steps : TellsSteps s row
+  tells_steps = record { changes = changes; values = values; writes = agrees; copies = copies }

@@ -89,7 +89,7 @@ is_register (Place.Operand k) slice = tt
 abbrev told_by : Sym → Option Arg → Option Arg → List MicroOp → List MicroOp
 told_by s a b row = if is_shift s.op && is_zero_count a then no_shift_row (length s.args) else if same_register a b then self_row s.op row else row
 
-no_count : (t : Bool) → (t && false) ≡ false
+pub no_count : (t : Bool) → (t && false) ≡ false
 no_count true = refl
 no_count false = refl
 

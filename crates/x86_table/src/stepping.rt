@@ -18,7 +18,7 @@ fn goal(goals: &[u32], k: usize) -> u32
 /// what an instruction learns from outside from the words. It has ended exactly where the position is past the last
 /// instruction. There, and after a fault, the machine is as before. The lines of the table obey the laws that any row does,
 /// where a repeated instruction is over too, and where names are told by a row of their own.
-#[tactic(auto, using(crate::proofs::TableObeys::obeys_table))]
+#[tactic(auto, using(crate::proofs::EntryLaws::obeys_table))]
 pub fn step(m: &mut Machine, code: &Code, choice: u64, outside: &[u32; 4]) -> StepEnd
     requires { m.old.at + 1 < 2 ^ 32 }
     ensures is { IsStepOf result (step_of code.now choice outside.now m.old) m.old m.new }
