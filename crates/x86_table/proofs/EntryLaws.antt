@@ -1,15 +1,13 @@
 -- The row that tells a line's entries tells its steps too.
-use Rattle.std.proofs.Common.{◌≡◌, inl, inr, ◌⊎◌, ℕ, zero, suc, ◌≤◌, ◌&&◌, List, [], ◌∷◌, length, slice_get, slice_index, Bool, true, false, if◌then◌else◌, Option, None, Some, refl, ap, sym, subst, ◌∙◌}
-use Rattle.asm_core.specs.Entries.{write_of, writes_of}
-use Rattle.asm_core.specs.MicroOps.{row_ended}
-use Rattle.asm_core.specs.Reading.Placed.{inst_under}
-use Rattle.asm_core.specs.RowLaws.{FitsTargets, FitsCopies, IsToldByOne}
+use Rattle.std.proofs.Common.{◌≡◌, inl, inr, ℕ, zero, suc, ◌≤◌, ◌&&◌, List, [], length, slice_get, Bool, true, false, if◌then◌else◌, Some, refl, ap, sym, subst, ◌∙◌}
+use Rattle.asm_core.specs.Entries.{write_of}
+use Rattle.asm_core.specs.RowLaws.{FitsTargets, FitsCopies}
 use Rattle.asm_core.specs.RowTerms.{repeated}
 use Rattle.asm_core.specs.Rows.{line_row, entry_row, is_zero_count, same_register}
-use Rattle.asm_core.specs.Steps.{IsAfter, Stand}
+use Rattle.asm_core.specs.Steps.{IsAfter}
 use Rattle.asm_core.specs.Table.{row_of, is_shift, self_row}
 use Rattle.asm_core.specs.Table.Bits.{no_shift_row}
-use Rattle.x86_table.specs.TableLaws.{IsStepped, TellsSteps, IsPlain, ObeysTable}
+use Rattle.x86_table.specs.TableLaws.{TellsSteps, IsPlain, ObeysTable}
 use Rattle.x86_table.proofs.OverLaws.{Serves, tells_steps}
 use Rattle.x86_table.proofs.SelfSteps.{no_count, self_steps}
 use Rattle.x86_table.proofs.ShiftSteps.{shift_steps}
@@ -17,7 +15,6 @@ use Rattle.x86_table.proofs.TableTurns.{HasTurn, has_turn, never_over}
 use Rattle.asm_core.specs.declared.inst.Op.{Op}
 use Rattle.asm_core.specs.declared.inst.Repeat.{Repeat}
 use Rattle.asm_core.specs.declared.inst.Width.{Width}
-use Rattle.asm_core.specs.declared.sym.Arg.{Arg}
 use Rattle.asm_core.specs.declared.sym.Sym.{Sym}
 use Rattle.asm_core.specs.declared.placement.Placement.{Placement}
 use Rattle.asm_core.specs.declared.micro_op.MicroOp.{MicroOp}

@@ -1,8 +1,8 @@
 -- A value that is put where it stands already changes nothing.
-use Rattle.std.proofs.Common.{◌≡◌, inl, inr, ⊎_elim, ℕ, zero, suc, ◌+◌, ◌-◌, ◌*◌, ◌/◌, ◌%◌, ◌^◌, ◌==◌, ◌<◌, ◌≤◌, List, [], ◌∷◌, slice_set, slice_index, Bool, true, false, if◌then◌else◌, refl, ap, sym, subst, ◌∙◌, arith}
+use Rattle.std.proofs.Common.{◌≡◌, ⊎_elim, ℕ, zero, suc, ◌+◌, ◌-◌, ◌*◌, ◌/◌, ◌%◌, ◌^◌, ◌==◌, ◌<◌, List, [], ◌∷◌, slice_set, slice_index, Bool, true, false, if◌then◌else◌, refl, ap, sym, subst, ◌∙◌, arith}
 use Rattle.asm_core.specs.Flag.{flag_in, flag_number, with_flag}
 use Rattle.asm_core.specs.Function.{bit}
-use Rattle.asm_core.specs.Machine.{reg_in, covers, byte_at, layouts_of}
+use Rattle.asm_core.specs.Machine.{reg_in, covers, byte_at}
 use Rattle.asm_core.specs.Memory.{put_byte, with_byte, with_word}
 use Rattle.asm_core.specs.MicroOps.{with_part, put, put_all}
 use Rattle.asm_core.specs.Reg.{reg_number}
@@ -11,8 +11,6 @@ use Rattle.asm_core.proofs.Puts.{set_read, nat_cases, put_covers, byte_kept, wor
 use Rattle.asm_core.proofs.RegisterLaws.{own_value_kept}
 use Rattle.asm_core.specs.declared.flag.Flag.{Flag}
 use Rattle.asm_core.specs.declared.flag.FlagSet.{FlagSet}
-use Rattle.asm_core.specs.declared.reg.Reg.{Reg}
-use Rattle.asm_core.specs.declared.micro_op.Bytes.{Bytes}
 use Rattle.asm_core.specs.declared.micro_op.Destination.{Destination}
 use Rattle.asm_core.specs.declared.machine.Range.{Range}
 use Rattle.asm_core.specs.declared.machine.Machine.{Machine}

@@ -1,8 +1,8 @@
 -- Where an instruction of the table writes, its values are left, also where it is repeated and over.
-use Rattle.std.proofs.Common.{◌≡◌, inl, inr, ◌⊎◌, ℕ, zero, suc, ◌+◌, ◌*◌, ◌/◌, ◌%◌, ◌^◌, ◌<◌, ◌≤◌, not, List, [], ◌∷◌, length, slice_get, slice_index, Bool, true, false, if◌then◌else◌, Option, None, Some, refl, ap, sym, subst, ◌∙◌, arith}
+use Rattle.std.proofs.Common.{◌≡◌, inl, inr, ℕ, zero, suc, ◌+◌, ◌*◌, ◌/◌, ◌%◌, ◌^◌, ◌<◌, ◌≤◌, not, List, [], ◌∷◌, length, slice_get, slice_index, Bool, true, false, if◌then◌else◌, Option, None, Some, refl, ap, sym, subst, ◌∙◌, arith}
 use Rattle.std.specs.List.{list_all}
 use Rattle.std.proofs.lemmas.Option.{slice_get_past}
-use Rattle.asm_core.specs.Entries.{slice_with, arg_or_zero, line_arg, first_in_name, is_write, known_in, write_to_site, write_of, writes_of, write_to, by_of}
+use Rattle.asm_core.specs.Entries.{slice_with, arg_or_zero, first_in_name, is_write, known_in, write_to_site, write_of, writes_of, write_to, by_of}
 use Rattle.asm_core.specs.Flag.{flag_in}
 use Rattle.asm_core.specs.Function.{bits_of, bit}
 use Rattle.asm_core.specs.Machine.{IsMachine, reg_in, byte_at}
@@ -23,18 +23,13 @@ use Rattle.x86_table.proofs.Turns.{Guards, IsTurnRow, kept_value}
 use Rattle.x86_table.proofs.TableTurns.{HasTurn}
 use Rattle.asm_core.specs.declared.flag.Flag.{Flag}
 use Rattle.asm_core.specs.declared.reg.Reg.{Reg}
-use Rattle.asm_core.specs.declared.reg.Slice.{Slice}
-use Rattle.asm_core.specs.declared.inst.Inst.{Inst}
 use Rattle.asm_core.specs.declared.inst.InstArg.{InstArg}
-use Rattle.asm_core.specs.declared.inst.Width.{Width}
 use Rattle.asm_core.specs.declared.sym.Arg.{Arg}
 use Rattle.asm_core.specs.declared.sym.Sym.{Sym}
 use Rattle.asm_core.specs.declared.placement.Placement.{Placement}
 use Rattle.asm_core.specs.declared.micro_op.Bytes.{Bytes}
 use Rattle.asm_core.specs.declared.micro_op.Site.{Site}
 use Rattle.asm_core.specs.declared.micro_op.Target.{Target}
-use Rattle.asm_core.specs.declared.micro_op.Input.{Input}
-use Rattle.asm_core.specs.declared.micro_op.Function.{Function}
 use Rattle.asm_core.specs.declared.micro_op.MicroOp.{MicroOp}
 use Rattle.asm_core.specs.declared.row.By.{By}
 use Rattle.asm_core.specs.declared.row.Write.{Write}

@@ -3,7 +3,7 @@ use Rattle.std.proofs.Common.{◌≡◌, ℕ, ◌==◌, ◌&&◌, List, [], ◌�
 use Rattle.std.proofs.lemmas.Bool.{and_parts, eqb-true}
 use Rattle.asm_core.specs.Entries.{slice_number}
 use Rattle.asm_core.specs.MicroOps.{values_of, read_in, ended_by, row_ended}
-use Rattle.asm_core.specs.Reading.Placed.{placed_place, operand_under, operand_at, inst_under}
+use Rattle.asm_core.specs.Reading.Placed.{placed_place, operand_at, inst_under}
 use Rattle.asm_core.specs.Reading.Text.{register_arg}
 use Rattle.asm_core.specs.Reg.{reg_number}
 use Rattle.asm_core.specs.RowTerms.{repeated}
@@ -104,7 +104,7 @@ module _ (p : Placement) (s : Sym) (goal choice : ℕ) (words : List ℕ) (m : M
   one_register (Some (Arg.Register first slice)) (Some (Arg.Register second other)) e =
       ap₂ (λ shift self. row_ended (if shift then no_shift_row (length s.args) else if self then self_row s.op plain else plain) (placed (Some (Arg.Register first slice)) (Some (Arg.Register second other))) goal choice words m) (no_count (is_shift s.op)) e
       ∙ subst (λ x. row_ended (self_row s.op plain) (record (inst_under p s) { args = operand_at p (Some (Arg.Register first slice)) ∷ x ∷ operand_at p (slice_get s.args 2) ∷ [] }) goal choice words m
-          ≡ row_ended plain (record (inst_under p s) { args = operand_at p (Some (Arg.Register first slice)) ∷ x ∷ operand_at p (slice_get s.args 2) ∷ [] }) goal choice words m)
+      ≡ row_ended plain (record (inst_under p s) { args = operand_at p (Some (Arg.Register first slice)) ∷ x ∷ operand_at p (slice_get s.args 2) ∷ [] }) goal choice words m)
       (ap₂ register_arg (same_placed p first second parts.0) (same_slice slice other parts.1))
       (self_ends s.op (length s.args) (inst_under p s) (register_arg (placed_place p first) slice) (operand_at p (slice_get s.args 2)) (is_register (placed_place p first) slice) goal choice words m)
     where

@@ -1,5 +1,5 @@
 -- A shift whose count is the number 0 changes nothing but the position.
-use Rattle.std.proofs.Common.{◌≡◌, ℕ, zero, suc, ◌+◌, ◌-◌, ◌*◌, ◌/◌, ◌%◌, ◌^◌, ◌==◌, ◌<◌, ◌≤◌, ◌&&◌, ℤ, pos, negsuc, not, List, [], ◌∷◌, length, slice_get, Bool, true, false, if◌then◌else◌, Option, None, Some, refl, ap, ap₂, sym, subst, ◌∙◌, arith}
+use Rattle.std.proofs.Common.{◌≡◌, ℕ, zero, suc, ◌+◌, ◌-◌, ◌*◌, ◌/◌, ◌%◌, ◌^◌, ◌==◌, ◌<◌, ◌&&◌, ℤ, pos, negsuc, List, [], length, slice_get, Bool, true, false, if◌then◌else◌, Option, Some, refl, ap, ap₂, sym, subst, ◌∙◌, arith}
 use Rattle.std.proofs.lemmas.Bool.{eqb-true}
 use Rattle.std.specs.List.{list_all}
 use Rattle.asm_core.specs.Entries.{writes_of}
@@ -7,12 +7,12 @@ use Rattle.asm_core.specs.Flag.{flag_in}
 use Rattle.asm_core.specs.Function.{bits_of, modulus_of, bit, shift_count, value_of}
 use Rattle.asm_core.specs.Machine.{IsMachine, reg_in, byte_at}
 use Rattle.asm_core.specs.Memory.{modulo, address_of, word_at}
-use Rattle.asm_core.specs.MicroOps.{count_of, bytes_named, part_of, with_part, arg_at, read_arg, read_in, values_of, is_good_arg, is_good_target, is_good_op, destinations_of, arg_destination, put_all, next_of, written, row_ended}
+use Rattle.asm_core.specs.MicroOps.{count_of, bytes_named, part_of, with_part, read_arg, read_in, values_of, is_good_arg, is_good_target, is_good_op, destinations_of, arg_destination, put_all, next_of, written, row_ended}
 use Rattle.asm_core.specs.Reading.Placed.{operand_at, inst_under}
-use Rattle.asm_core.specs.RowLaws.{Component, nth_byte, ChangesOnly, HasBytes, FitsOperand, FitsTargets}
+use Rattle.asm_core.specs.RowLaws.{nth_byte, ChangesOnly, HasBytes, FitsOperand, FitsTargets}
 use Rattle.asm_core.specs.RowTerms.{arg, to_arg, repeated}
 use Rattle.asm_core.specs.Rows.{line_row, entry_row, is_zero_count, same_register}
-use Rattle.asm_core.specs.Steps.{IsAfter, Stand, reads_at}
+use Rattle.asm_core.specs.Steps.{IsAfter, Stand}
 use Rattle.asm_core.specs.Table.{row_of, is_shift, self_row}
 use Rattle.asm_core.specs.Table.Bits.{no_shift_row}
 use Rattle.asm_core.proofs.BytesRead.{word_byte}
@@ -149,7 +149,7 @@ destination_idle w m (Some (InstArg.Register r slice)) v is_machine fits e =
     subst (λ v. with_part (bytes_named slice) v (reg_in r m) ≡ reg_in r m) (sym e) (part_kept w slice (reg_in r m) fits (reg_in_small r m is_machine))
 destination_idle w m (Some (InstArg.Address form k)) v is_machine fits e =
     λ o small. ap (nth_byte o) e ∙ low_byte w o (word_at (bits_of w / 8) (address_of form m + 0) m.ranges) small ∙ word_byte (bits_of w / 8) o (address_of form m + 0) m.ranges is_machine.ranges small
-        ∙ ap (byte_at m.ranges) (at_start (address_of form m) o)
+    ∙ ap (byte_at m.ranges) (at_start (address_of form m) o)
   where
     at_start : (a o : ℕ) → (a + 0 + o) % 2 ^ 32 ≡ ((a + 0) % 2 ^ 32 + o) % 2 ^ 32
     at_start a o = omega arith

@@ -1,6 +1,6 @@
 -- No row of the table alone is over; one that is repeated is a turn's.
-use Rattle.std.proofs.Common.{◌≡◌, ◌⊎◌, inl, inr, ℕ, zero, suc, ◌&&◌, ◌||◌, List, [], ◌∷◌, ◌++◌, length, slice_index, Bool, true, false, refl, ap}
-use Rattle.asm_core.specs.MicroOps.{is_zero, is_turn, any_value, is_over}
+use Rattle.std.proofs.Common.{◌≡◌, ◌⊎◌, inl, inr, ℕ, zero, suc, ◌&&◌, ◌||◌, List, [], ◌∷◌, ◌++◌, length, slice_index, false, refl, ap}
+use Rattle.asm_core.specs.MicroOps.{is_zero, is_turn, is_over}
 use Rattle.asm_core.specs.RowTerms.{op1, op3, arg, to_arg, zero_input, zf_from, repeated}
 use Rattle.asm_core.specs.Table.{row_of}
 use Rattle.asm_core.specs.Table.Moves.{condition}

@@ -1,5 +1,5 @@
 -- What holds of the steps of the table's own lines, beside the laws of any row.
-use Rattle.std.specs.Prelude.{◌≡◌, ◌⊎◌, ℕ, ◌≤◌, List, [], length}
+use Rattle.std.specs.Prelude.{◌≡◌, ◌⊎◌, ◌≤◌, List, [], length}
 use Rattle.asm_core.specs.Entries.{writes_of}
 use Rattle.asm_core.specs.Machine.{IsMachine}
 use Rattle.asm_core.specs.MicroOps.{values_of, row_ended}
