@@ -1,8 +1,7 @@
 -- A shift whose count is the number 0 changes nothing but the position.
-use Rattle.std.proofs.Common.{◌≡◌, ℕ, zero, suc, ◌+◌, ◌-◌, ◌*◌, ◌/◌, ◌%◌, ◌^◌, ◌==◌, ◌<◌, ◌&&◌, ℤ, pos, negsuc, List, [], length, slice_get, Bool, true, false, if◌then◌else◌, Option, Some, refl, ap, ap₂, sym, subst, ◌∙◌, arith}
+use Rattle.std.proofs.Common.{◌≡◌, ℕ, zero, suc, ◌+◌, ◌-◌, ◌*◌, ◌/◌, ◌%◌, ◌^◌, ◌<◌, ℤ, pos, negsuc, List, length, slice_get, slice_index, Bool, true, false, Option, Some, refl, ap, sym, subst, ◌∙◌, arith}
 use Rattle.std.proofs.lemmas.Bool.{eqb-true}
 use Rattle.std.specs.List.{list_all}
-use Rattle.asm_core.specs.Entries.{writes_of}
 use Rattle.asm_core.specs.Flag.{flag_in}
 use Rattle.asm_core.specs.Function.{bits_of, modulus_of, bit, shift_count, value_of}
 use Rattle.asm_core.specs.Machine.{IsMachine, reg_in, byte_at}
@@ -10,11 +9,10 @@ use Rattle.asm_core.specs.Memory.{modulo, address_of, word_at}
 use Rattle.asm_core.specs.MicroOps.{count_of, bytes_named, part_of, with_part, read_arg, read_in, values_of, is_good_arg, is_good_target, is_good_op, destinations_of, arg_destination, put_all, next_of, written, row_ended}
 use Rattle.asm_core.specs.Reading.Placed.{operand_at, inst_under}
 use Rattle.asm_core.specs.RowLaws.{nth_byte, ChangesOnly, HasBytes, FitsOperand, FitsTargets}
-use Rattle.asm_core.specs.RowTerms.{arg, to_arg, repeated}
-use Rattle.asm_core.specs.Rows.{line_row, entry_row, is_zero_count, same_register}
+use Rattle.asm_core.specs.RowTerms.{op3, arg, to_arg, flag, to_flag, repeated}
+use Rattle.asm_core.specs.Rows.{is_zero_count}
 use Rattle.asm_core.specs.Steps.{IsAfter, Stand}
-use Rattle.asm_core.specs.Table.{row_of, is_shift, self_row}
-use Rattle.asm_core.specs.Table.Bits.{no_shift_row}
+use Rattle.asm_core.specs.Table.{row_of, is_shift}
 use Rattle.asm_core.proofs.BytesRead.{word_byte}
 use Rattle.asm_core.proofs.CopyLaws.{done_holds}
 use Rattle.asm_core.proofs.DecideLaws.{holds_of}
@@ -24,6 +22,7 @@ use Rattle.asm_core.proofs.ValuesLeft.{good_at, good_target}
 use Rattle.x86_table.specs.TableLaws.{IsStepped}
 use Rattle.x86_table.proofs.Idle.{Nothing, IsIdle, AreIdle, all_idle}
 use Rattle.x86_table.proofs.TableTurns.{never_over}
+use Rattle.x86_table.proofs.Turns.{picked_last}
 use Rattle.asm_core.specs.declared.flag.Flag.{Flag}
 use Rattle.asm_core.specs.declared.reg.Slice.{Slice}
 use Rattle.asm_core.specs.declared.inst.InstArg.{InstArg}
@@ -35,6 +34,8 @@ use Rattle.asm_core.specs.declared.sym.Sym.{Sym}
 use Rattle.asm_core.specs.declared.placement.Placement.{Placement}
 use Rattle.asm_core.specs.declared.micro_op.Bytes.{Bytes}
 use Rattle.asm_core.specs.declared.micro_op.Function.{Function}
+use Rattle.asm_core.specs.declared.micro_op.Input.{Input}
+use Rattle.asm_core.specs.declared.micro_op.Site.{Site}
 use Rattle.asm_core.specs.declared.micro_op.MicroOp.{MicroOp}
 use Rattle.asm_core.specs.declared.machine.Machine.{Machine}
 
@@ -174,8 +175,9 @@ count_zero p w m x h = cc
 -- ---- rows
 
 module _ (p : Placement) (s : Sym) (m : Machine) (choice : ℕ) (words : List ℕ) (is_machine : IsMachine m) (none : shift_count (read_arg s.width Bytes.Whole (operand_at p (slice_get s.args 0)) m) ≡ 0) where
-  flag_idle : (f : Flag) (n x : ℕ) → shift_count n ≡ 0 → (if shift_count n == 0 then bit (flag_in f m.flags) else x) % 2 ≡ bit (flag_in f m.flags)
-  flag_idle f n x none = ap (λ c. (if c == 0 then bit (flag_in f m.flags) else x) % 2) none ∙ by_bit (flag_in f m.flags)
+  flag_idle : (row : List MicroOp) (k : ℕ) (f : Flag) (value : Input) → slice_get row k ≡ Some (op3 (to_flag f) Function.Pick (Input.Earlier 0) value (flag f)) → 0 < k
+      → slice_index (values_of s.width (read_in (inst_under p s) choice words m) row) 0 ≡ 0 → slice_index (values_of s.width (read_in (inst_under p s) choice words m) row) k % 2 ≡ bit (flag_in f m.flags)
+  flag_idle row k f value at later none = ap (λ v. v % 2) (picked_last s.width (read_in (inst_under p s) choice words m) row k (to_flag f) value (Site.Flag f) at later none) ∙ by_bit (flag_in f m.flags)
     where
       by_bit : (b : Bool) → bit b % 2 ≡ bit b
       by_bit true = refl
@@ -188,25 +190,25 @@ module _ (p : Placement) (s : Sym) (m : Machine) (choice : ℕ) (words : List �
   operand k = read_in (inst_under p s) choice words m (arg k)
 
   shl_idle : RowIdle (row_of Op.Shl s.width 2)
-  shl_idle fits = let result = destination_idle s.width m (operand_at p (slice_get s.args 1)) _ is_machine fits.1.0 (left_none s.width (operand 1) (operand 0) 0 none) in (tt, (result, (tt, (tt, (tt, (tt, (tt, (tt, (tt, (tt, (tt, (flag_idle Flag.Cf _ _ none, (flag_idle Flag.Pf _ _ none, (flag_idle Flag.Af _ _ none, (flag_idle Flag.Zf _ _ none, (flag_idle Flag.Sf _ _ none, (flag_idle Flag.Of _ _ none, tt)))))))))))))))))
+  shl_idle fits = let result = destination_idle s.width m (operand_at p (slice_get s.args 1)) _ is_machine fits.1.0 (left_none s.width (operand 1) (operand 0) 0 none) in (tt, (result, (tt, (tt, (tt, (tt, (tt, (tt, (tt, (tt, (tt, (flag_idle (row_of Op.Shl s.width 2) 11 Flag.Cf _ refl (omega arith) none, (flag_idle (row_of Op.Shl s.width 2) 12 Flag.Pf _ refl (omega arith) none, (flag_idle (row_of Op.Shl s.width 2) 13 Flag.Af _ refl (omega arith) none, (flag_idle (row_of Op.Shl s.width 2) 14 Flag.Zf _ refl (omega arith) none, (flag_idle (row_of Op.Shl s.width 2) 15 Flag.Sf _ refl (omega arith) none, (flag_idle (row_of Op.Shl s.width 2) 16 Flag.Of _ refl (omega arith) none, tt)))))))))))))))))
 
   shr_idle : RowIdle (row_of Op.Shr s.width 2)
-  shr_idle fits = let result = destination_idle s.width m (operand_at p (slice_get s.args 1)) _ is_machine fits.1.0 (right_none s.width (operand 1) (operand 0) 0 none) in (tt, (result, (tt, (tt, (tt, (tt, (tt, (tt, (tt, (tt, (tt, (flag_idle Flag.Cf _ _ none, (flag_idle Flag.Pf _ _ none, (flag_idle Flag.Af _ _ none, (flag_idle Flag.Zf _ _ none, (flag_idle Flag.Sf _ _ none, (flag_idle Flag.Of _ _ none, tt)))))))))))))))))
+  shr_idle fits = let result = destination_idle s.width m (operand_at p (slice_get s.args 1)) _ is_machine fits.1.0 (right_none s.width (operand 1) (operand 0) 0 none) in (tt, (result, (tt, (tt, (tt, (tt, (tt, (tt, (tt, (tt, (tt, (flag_idle (row_of Op.Shr s.width 2) 11 Flag.Cf _ refl (omega arith) none, (flag_idle (row_of Op.Shr s.width 2) 12 Flag.Pf _ refl (omega arith) none, (flag_idle (row_of Op.Shr s.width 2) 13 Flag.Af _ refl (omega arith) none, (flag_idle (row_of Op.Shr s.width 2) 14 Flag.Zf _ refl (omega arith) none, (flag_idle (row_of Op.Shr s.width 2) 15 Flag.Sf _ refl (omega arith) none, (flag_idle (row_of Op.Shr s.width 2) 16 Flag.Of _ refl (omega arith) none, tt)))))))))))))))))
 
   sar_idle : RowIdle (row_of Op.Sar s.width 2)
-  sar_idle fits = let result = destination_idle s.width m (operand_at p (slice_get s.args 1)) _ is_machine fits.1.0 (arithmetic_none s.width (operand 1) (operand 0) 0 none) in (tt, (result, (tt, (tt, (tt, (tt, (tt, (tt, (flag_idle Flag.Cf _ _ none, (flag_idle Flag.Pf _ _ none, (flag_idle Flag.Af _ _ none, (flag_idle Flag.Zf _ _ none, (flag_idle Flag.Sf _ _ none, (flag_idle Flag.Of _ _ none, tt))))))))))))))
+  sar_idle fits = let result = destination_idle s.width m (operand_at p (slice_get s.args 1)) _ is_machine fits.1.0 (arithmetic_none s.width (operand 1) (operand 0) 0 none) in (tt, (result, (tt, (tt, (tt, (tt, (tt, (tt, (flag_idle (row_of Op.Sar s.width 2) 8 Flag.Cf _ refl (omega arith) none, (flag_idle (row_of Op.Sar s.width 2) 9 Flag.Pf _ refl (omega arith) none, (flag_idle (row_of Op.Sar s.width 2) 10 Flag.Af _ refl (omega arith) none, (flag_idle (row_of Op.Sar s.width 2) 11 Flag.Zf _ refl (omega arith) none, (flag_idle (row_of Op.Sar s.width 2) 12 Flag.Sf _ refl (omega arith) none, (flag_idle (row_of Op.Sar s.width 2) 13 Flag.Of _ refl (omega arith) none, tt))))))))))))))
 
   rol_idle : RowIdle (row_of Op.Rol s.width 2)
-  rol_idle fits = let result = destination_idle s.width m (operand_at p (slice_get s.args 1)) _ is_machine fits.1.0 (rotated_left_none s.width (operand 1) (operand 0) 0 none) in (tt, (result, (tt, (tt, (tt, (tt, (tt, (tt, (tt, (flag_idle Flag.Cf _ _ none, (flag_idle Flag.Of _ _ none, tt)))))))))))
+  rol_idle fits = let result = destination_idle s.width m (operand_at p (slice_get s.args 1)) _ is_machine fits.1.0 (rotated_left_none s.width (operand 1) (operand 0) 0 none) in (tt, (result, (tt, (tt, (tt, (tt, (tt, (tt, (tt, (flag_idle (row_of Op.Rol s.width 2) 9 Flag.Cf _ refl (omega arith) none, (flag_idle (row_of Op.Rol s.width 2) 10 Flag.Of _ refl (omega arith) none, tt)))))))))))
 
   ror_idle : RowIdle (row_of Op.Ror s.width 2)
-  ror_idle fits = let result = destination_idle s.width m (operand_at p (slice_get s.args 1)) _ is_machine fits.1.0 (rotated_right_none s.width (operand 1) (operand 0) 0 none) in (tt, (result, (tt, (tt, (tt, (tt, (tt, (tt, (flag_idle Flag.Cf _ _ none, (flag_idle Flag.Of _ _ none, tt))))))))))
+  ror_idle fits = let result = destination_idle s.width m (operand_at p (slice_get s.args 1)) _ is_machine fits.1.0 (rotated_right_none s.width (operand 1) (operand 0) 0 none) in (tt, (result, (tt, (tt, (tt, (tt, (tt, (tt, (flag_idle (row_of Op.Ror s.width 2) 8 Flag.Cf _ refl (omega arith) none, (flag_idle (row_of Op.Ror s.width 2) 9 Flag.Of _ refl (omega arith) none, tt))))))))))
 
   shld_idle : RowIdle (row_of Op.Shld s.width 3)
-  shld_idle fits = let result = destination_idle s.width m (operand_at p (slice_get s.args 2)) _ is_machine fits.1.0 (double_left_none s.width (operand 2) (operand 1) (operand 0) none) in (tt, (result, (tt, (tt, (tt, (tt, (tt, (tt, (tt, (tt, (tt, (tt, (flag_idle Flag.Cf _ _ none, (flag_idle Flag.Pf _ _ none, (flag_idle Flag.Af _ _ none, (flag_idle Flag.Zf _ _ none, (flag_idle Flag.Sf _ _ none, (flag_idle Flag.Of _ _ none, tt))))))))))))))))))
+  shld_idle fits = let result = destination_idle s.width m (operand_at p (slice_get s.args 2)) _ is_machine fits.1.0 (double_left_none s.width (operand 2) (operand 1) (operand 0) none) in (tt, (result, (tt, (tt, (tt, (tt, (tt, (tt, (tt, (tt, (tt, (tt, (flag_idle (row_of Op.Shld s.width 3) 12 Flag.Cf _ refl (omega arith) none, (flag_idle (row_of Op.Shld s.width 3) 13 Flag.Pf _ refl (omega arith) none, (flag_idle (row_of Op.Shld s.width 3) 14 Flag.Af _ refl (omega arith) none, (flag_idle (row_of Op.Shld s.width 3) 15 Flag.Zf _ refl (omega arith) none, (flag_idle (row_of Op.Shld s.width 3) 16 Flag.Sf _ refl (omega arith) none, (flag_idle (row_of Op.Shld s.width 3) 17 Flag.Of _ refl (omega arith) none, tt))))))))))))))))))
 
   shrd_idle : RowIdle (row_of Op.Shrd s.width 3)
-  shrd_idle fits = let result = destination_idle s.width m (operand_at p (slice_get s.args 2)) _ is_machine fits.1.0 (double_right_none s.width (operand 2) (operand 1) (operand 0) none) in (tt, (result, (tt, (tt, (tt, (tt, (tt, (tt, (tt, (tt, (tt, (tt, (flag_idle Flag.Cf _ _ none, (flag_idle Flag.Pf _ _ none, (flag_idle Flag.Af _ _ none, (flag_idle Flag.Zf _ _ none, (flag_idle Flag.Sf _ _ none, (flag_idle Flag.Of _ _ none, tt))))))))))))))))))
+  shrd_idle fits = let result = destination_idle s.width m (operand_at p (slice_get s.args 2)) _ is_machine fits.1.0 (double_right_none s.width (operand 2) (operand 1) (operand 0) none) in (tt, (result, (tt, (tt, (tt, (tt, (tt, (tt, (tt, (tt, (tt, (tt, (flag_idle (row_of Op.Shrd s.width 3) 12 Flag.Cf _ refl (omega arith) none, (flag_idle (row_of Op.Shrd s.width 3) 13 Flag.Pf _ refl (omega arith) none, (flag_idle (row_of Op.Shrd s.width 3) 14 Flag.Af _ refl (omega arith) none, (flag_idle (row_of Op.Shrd s.width 3) 15 Flag.Zf _ refl (omega arith) none, (flag_idle (row_of Op.Shrd s.width 3) 16 Flag.Sf _ refl (omega arith) none, (flag_idle (row_of Op.Shrd s.width 3) 17 Flag.Of _ refl (omega arith) none, tt))))))))))))))))))
 
 -- ---- a step
 
@@ -266,13 +268,3 @@ shift_steps s no_prefix shift zero_count x stepped =
     row_idle x.at s x.before zero_count x.goal x.choice x.words x.after stepped.is_machine shift
     (subst (λ r. FitsTargets x.at s (repeated r (row_of s.op s.width (length s.args)))) no_prefix stepped.fits)
     (subst (λ r. IsAfter (row_ended (repeated r (row_of s.op s.width (length s.args))) (inst_under x.at s) x.goal x.choice x.words x.before) x.after) no_prefix stepped.step)
-
--- the row that tells its names writes nothing
-pub shift_writes : (s : Sym) → is_shift s.op ≡ true → is_zero_count (slice_get s.args 0) ≡ true → writes_of (entry_row s) s ≡ []
-shift_writes s shift zero_count = ap₂ (λ a b. writes_of (if a && b then no_shift_row (length s.args) else if same_register (slice_get s.args 0) (slice_get s.args 1) then self_row s.op (line_row s) else line_row s) s) shift zero_count ∙ none (length s.args)
-  where
-    none : (n : ℕ) → writes_of (no_shift_row n) s ≡ []
-    none zero = refl
-    none (suc zero) = refl
-    none (suc (suc zero)) = refl
-    none (suc (suc (suc n))) = refl

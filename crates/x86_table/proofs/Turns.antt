@@ -3,7 +3,7 @@ use Rattle.std.proofs.Common.{◌≡◌, ℕ, zero, suc, ◌+◌, ◌==◌, ◌<
 use Rattle.std.proofs.lemmas.Bool.{eqb-true}
 use Rattle.std.proofs.lemmas.List.{append_assoc, append-nil, length-append, get_or_append_left, get_or-append-add}
 use Rattle.asm_core.specs.Entries.{is_write}
-use Rattle.asm_core.specs.MicroOps.{op_value, values_from, values_of, is_zero, is_turn, any_value, is_over}
+use Rattle.asm_core.specs.MicroOps.{input_of, op_value, values_from, values_of, is_zero, is_turn, any_value, is_over}
 use Rattle.asm_core.specs.RowTerms.{op1, op2, op3, reg, to_reg, as_temporary, guarded_op, guarded, turn_of}
 use Rattle.asm_core.specs.declared.reg.Reg.{Reg}
 use Rattle.asm_core.specs.declared.inst.Width.{Width}
@@ -177,6 +177,17 @@ kept_value w env row n k op guards at later none =
     let zero_here : slice_index found.before n ≡ 0 = found.same n (omega arith) ∙ none in
     ap (slice_index (values_of w env row)) from_start ∙ found.value ∙ ap (op_value w env found.before) guards.is
     ∙ ap (λ v. if v == 0 then env (Input.Kept guards.site) else slice_index found.before guards.value) zero_here
+  where
+    from_start : k ≡ 0 + k
+    from_start = omega arith
+
+-- where the first value is 0, a later choice by it is its last input
+pub picked_last : (w : Width) (env : Input → ℕ) (row : List MicroOp) (k : ℕ) (to : Target) (value : Input) (site : Site) → slice_get row k ≡ Some (op3 to Function.Pick (Input.Earlier 0) value (Input.Read site)) → 0 < k
+    → slice_index (values_of w env row) 0 ≡ 0 → slice_index (values_of w env row) k ≡ env (Input.Read site)
+picked_last w env row k to value site at later none =
+    let found = is_from w env row [] k (op3 to Function.Pick (Input.Earlier 0) value (Input.Read site)) at in
+    let zero_here : slice_index found.before 0 ≡ 0 = found.same 0 (omega arith) ∙ none in
+    ap (slice_index (values_of w env row)) from_start ∙ found.value ∙ ap (λ v. if v == 0 then env (Input.Read site) else input_of env found.before value) zero_here
   where
     from_start : k ≡ 0 + k
     from_start = omega arith

@@ -14,10 +14,10 @@ fn goal(goals: &[u32], k: usize) -> u32
     if k < goals.len() { goals[k] } else { 0 }
 }
 
-/// Does one step of the code: of the instruction at the machine's position. Undefined bits are taken from the choice, and
-/// what an instruction learns from outside from the words. It has ended exactly where the position is past the last
-/// instruction. There, and after a fault, the machine is as before. The lines of the table obey the laws that any row does,
-/// where a repeated instruction is over too, and where names are told by a row of their own.
+/// Does one step of the code: of the instruction at the machine's position. Undefined bits are taken from the choice,
+/// and what an instruction learns from outside from the words. It has ended exactly where the position is past the
+/// last instruction. There, and after a fault, the machine is as before. The rows of the table's lines, and the rows
+/// that tell their entries, tell what steps change and leave, where a repeated instruction is over too.
 #[tactic(auto, using(crate::proofs::EntryLaws::obeys_table))]
 pub fn step(m: &mut Machine, code: &Code, choice: u64, outside: &[u32; 4]) -> StepEnd
     requires { m.old.at + 1 < 2 ^ 32 }
