@@ -8,6 +8,7 @@ use Rattle.asm_core.specs.Steps.{IsAfter}
 use Rattle.asm_core.specs.Table.{row_of, is_shift, self_row}
 use Rattle.asm_core.specs.Table.Bits.{no_shift_row}
 use Rattle.x86_table.specs.TableLaws.{TellsSteps, IsPlain, ObeysTable}
+use Rattle.x86_table.proofs.Fits.{row_fits}
 use Rattle.x86_table.proofs.OverLaws.{Serves, tells_steps}
 use Rattle.x86_table.proofs.SelfSteps.{no_count, self_steps}
 use Rattle.x86_table.proofs.ShiftSteps.{shift_steps}
@@ -119,4 +120,4 @@ module _ (s : Sym) (few : length s.args ≤ 3) where
   entry_tells (inr none) = subst (TellsSteps s) (sym (bare none)) (line_tells s few)
 
 pub obeys_table : ObeysTable
-obeys_table = record { lines = line_tells; entries = entry_tells }
+obeys_table = record { lines = line_tells; entries = entry_tells; fits = λ s row has p. row_fits p s row has }

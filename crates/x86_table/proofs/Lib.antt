@@ -1,5 +1,6 @@
 pub mod Ends
 pub mod EntryLaws
+pub mod Fits
 pub mod Idle
 pub mod OverLaws
 pub mod SelfSteps

@@ -1,13 +1,21 @@
 -- What holds of the steps of the table's own lines, beside the laws of any row.
-use Rattle.std.specs.Prelude.{◌≡◌, ◌⊎◌, ◌≤◌, List, [], length}
+use Rattle.std.specs.Prelude.{◌≡◌, ◌⊎◌, ℕ, ◌≤◌, List, [], ◌∷◌, length, slice_get, Option, Some}
 use Rattle.asm_core.specs.Entries.{writes_of}
 use Rattle.asm_core.specs.Machine.{IsMachine}
-use Rattle.asm_core.specs.MicroOps.{values_of, row_ended}
+use Rattle.asm_core.specs.MicroOps.{first_of, values_of, row_ended}
 use Rattle.asm_core.specs.Reading.Placed.{inst_under}
-use Rattle.asm_core.specs.RowLaws.{ChangesOnly, IsToldByOne, FitsTargets, FitsCopies, LeavesValues, LeavesCopies}
+use Rattle.asm_core.specs.RowLaws.{ChangesOnly, IsToldByOne, HasBytes, FitsTargets, byte_count, target_count, FitsCopies, LeavesValues, LeavesCopies}
 use Rattle.asm_core.specs.Rows.{line_row, entry_row}
 use Rattle.asm_core.specs.Steps.{IsAfter, Stand, reads_at, AgreesOnWrites}
 use Rattle.asm_core.specs.declared.inst.Repeat.{Repeat}
+use Rattle.asm_core.specs.declared.inst.Width.{Width}
+use Rattle.asm_core.specs.declared.micro_op.Bytes.{Bytes}
+use Rattle.asm_core.specs.declared.micro_op.Function.{Function}
+use Rattle.asm_core.specs.declared.micro_op.Input.{Input}
+use Rattle.asm_core.specs.declared.micro_op.Site.{Site}
+use Rattle.asm_core.specs.declared.micro_op.Target.{Target}
+use Rattle.asm_core.specs.declared.placement.Placement.{Placement}
+use Rattle.asm_core.specs.declared.sym.Arg.{Arg}
 use Rattle.asm_core.specs.declared.micro_op.MicroOp.{MicroOp}
 use Rattle.asm_core.specs.declared.sym.Sym.{Sym}
 
@@ -30,7 +38,37 @@ pub record TellsSteps (s : Sym) (row : List MicroOp) : Type 0 where
 abbrev pub IsPlain : Sym → Type 0
 IsPlain s = s.repeat ≡ Repeat.No ⊎ s.args ≡ []
 
+-- An operand has the bytes that are read or written there, as it is written: a register by its name, and a number from its
+-- lowest byte on.
+abbrev pub HasArg : Width → Bytes → Option Arg → Type 0
+HasArg w bytes (Some (Arg.Register place slice)) = HasBytes w slice bytes
+HasArg w bytes (Some (Arg.Number n)) = first_of bytes ≡ 0
+HasArg w bytes (Some (Arg.Hole k)) = first_of bytes ≡ 0
+HasArg w bytes arg = Unit {0}
+
+abbrev pub HasSite : Sym → Site → Type 0
+HasSite s (Site.Argument k bytes) = HasArg s.width bytes (slice_get s.args k)
+HasSite s site = Unit {0}
+
+abbrev pub HasTarget : Sym → Target → Type 0
+HasTarget s (Target.Site site) = HasSite s site
+HasTarget s target = Unit {0}
+
+-- what is copied has the bytes that are written, and what is set is a bit
+abbrev pub HasInput : Sym → Function → Input → ℕ → Type 0
+HasInput s Function.Copy (Input.Read site) count = HasSite s site × (count ≤ byte_count s.width site)
+HasInput s Function.Copy Input.Top count = count ≤ 4
+HasInput s Function.Set (Input.Number n) count = n ≤ 1
+HasInput s f x count = Unit {0}
+
+-- a line's operands have the bytes that a row writes and copies
+abbrev pub HasOperands : Sym → List MicroOp → Type 0
+HasOperands s [] = Unit {0}
+HasOperands s (op ∷ ops) = HasTarget s op.target × (HasInput s op.function op.x (target_count s.width op.target) × HasOperands s ops)
+
 -- A line's row tells its steps, and so does the row that tells its entries, where that is another one.
 pub record ObeysTable : Type 0 where
   pub lines : (s : Sym) → length s.args ≤ 3 → TellsSteps s (line_row s)
   pub entries : (s : Sym) → length s.args ≤ 3 → IsPlain s → TellsSteps s (entry_row s)
+  -- what a line as it is written has, it has at each placement
+  pub fits : (s : Sym) (row : List MicroOp) → HasOperands s row → (p : Placement) → FitsTargets p s row × FitsCopies p s row
