@@ -1,12 +1,11 @@
 -- The bytes that a line's operands have as they are written, they have at each placement.
-use Rattle.std.proofs.Common.{◌≡◌, ℕ, ◌≤◌, List, [], ◌∷◌, slice_get, Option, None, Some}
+use Rattle.std.proofs.Common.{◌≡◌, ℕ, List, [], ◌∷◌, slice_get, Option, None, Some}
 use Rattle.asm_core.specs.MicroOps.{first_of}
 use Rattle.asm_core.specs.Reading.Placed.{placed_place, placed_disp, placed_base, placed_index, spot_form, operand_at}
 use Rattle.asm_core.specs.Reading.Text.{register_arg, number_arg, memory_arg, address_arg}
 use Rattle.asm_core.specs.Placement.{spot_of}
 use Rattle.asm_core.specs.RowLaws.{HasBytes, FitsOperand, FitsSite, FitsTarget, FitsTargets, FitsInput, FitsCopies}
 use Rattle.x86_table.specs.TableLaws.{HasArg, HasSite, HasTarget, HasInput, HasOperands}
-use Rattle.asm_core.specs.declared.inst.InstArg.{InstArg}
 use Rattle.asm_core.specs.declared.inst.Width.{Width}
 use Rattle.asm_core.specs.declared.micro_op.Bytes.{Bytes}
 use Rattle.asm_core.specs.declared.micro_op.Function.{Function}
@@ -21,7 +20,6 @@ use Rattle.asm_core.specs.declared.sym.Arg.{Arg}
 use Rattle.asm_core.specs.declared.sym.Disp.{Disp}
 use Rattle.asm_core.specs.declared.sym.Place.{Place}
 use Rattle.asm_core.specs.declared.sym.Sym.{Sym}
-use Rattle.asm_core.specs.declared.reg.Reg.{Reg}
 
 register_fits : (w : Width) (bytes : Bytes) (place : Place) (slice : Slice) → HasBytes w slice bytes → FitsOperand w bytes (register_arg place slice)
 register_fits w bytes (Place.Reg r) slice has = has
