@@ -1,1 +1,9 @@
 pub mod Ends
+pub mod EntryLaws
+pub mod Fits
+pub mod Idle
+pub mod OverLaws
+pub mod SelfSteps
+pub mod ShiftSteps
+pub mod TableTurns
+pub mod Turns
