@@ -1,6 +1,6 @@
 //! The pieces of a statement's template.
 
-ghost use Rattle.std.specs.Prelude.{◌≡◌, ◌++◌, length, IfOk};
+ghost use Rattle.std.specs.Prelude.{◌≡◌, ◌++◌, length, is_ok, IsTrue, IfOk};
 ghost use Rattle.asm_core.specs.Parts.{IsParts};
 ghost use Rattle.asm_core.specs.Pieces.{ArePieces};
 ghost use Rattle.blk_check.specs.Judged.{IsInterfaceOf};
@@ -14,7 +14,8 @@ use std::alloc::Global;
 /// The pieces of the template, which has some.
 #[tactic(auto, using(crate::proofs::PieceLaws::name_count))]
 fn parts_pieces(alloc: Global, parts: &Parts) -> Result<Pieces, Memory>
-    requires { IsParts parts.now }
+    requires parts { IsParts parts.now }
+    requires there { IsTrue (is_ok (parts_pieces parts.now)) }
     ensures is { IfOk result (λ pieces. pieces.list ≡ pieces_or_none (parts_pieces parts.now)) }
     ensures kept { IfOk result (λ pieces. ArePieces (length (parts.now.outputs ++ parts.now.inputs)) pieces.list) }
 {
@@ -22,7 +23,7 @@ fn parts_pieces(alloc: Global, parts: &Parts) -> Result<Pieces, Memory>
     match pieces(alloc, &parts.template, names.as_slice()) {
         Ok(pieces) => Ok(pieces),
         Err(PiecesEnd::Memory) => Err(Memory),
-        Err(PiecesEnd::Outside(_) | PiecesEnd::NoOperand) => Err(Memory),
+        Err(PiecesEnd::Outside(_) | PiecesEnd::NoOperand) => unreachable!(),
     }
 }
 
@@ -36,9 +37,8 @@ pub fn pieces_in(
     ensures is { IfOk result (λ pieces. pieces.list ≡ pieces_in statement.now.body) }
     ensures kept { IfOk result (λ pieces. ArePieces (length interface.now.operands) pieces.list) }
 {
-    let _operands = interface;
     match &statement.body {
         Body::Parts(parts) => parts_pieces(alloc, parts),
-        Body::Outside(_) => Err(Memory),
+        Body::Outside(_) => unreachable!(),
     }
 }
