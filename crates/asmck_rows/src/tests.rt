@@ -2,7 +2,7 @@ mod rows;
 
 use crate::runs::{Ending, Failing, NOTHING, run_with};
 use asm_core::Memory;
-use rows::{FILES, INTERFACES, JUDGED, NOT_YET, OPERANDS, Row, USAGE, USAGES};
+use rows::{FILES, INSTRUCTIONS, INTERFACES, JUDGED, NOT_YET, OPERANDS, Row, USAGE, USAGES};
 use std::alloc::Global;
 use std::process::Abort;
 use std::test::Fail;
@@ -32,6 +32,7 @@ fn statements_are_judged(rt: HostRuntime) -> Result<(), Fail> {
     let alloc = rt.alloc();
     statements_print(&rt, alloc, &JUDGED)?;
     statements_print(&rt, alloc, &INTERFACES)?;
+    statements_print(&rt, alloc, &INSTRUCTIONS)?;
     for statement in &NOT_YET {
         let text = format!(in alloc; "int f(int x,int y){{{statement};return y;}}\n")?;
         let ending = check(alloc, text.as_str(), &NOTHING)?;
@@ -75,6 +76,25 @@ fn templates_have_at_most_100_lines(rt: HostRuntime) -> Result<(), Fail> {
             code,
             "{count}"
         );
+    }
+    Ok(())
+}
+
+#[test]
+fn templates_have_at_most_512_instructions(rt: HostRuntime) -> Result<(), Fail> {
+    let alloc = rt.alloc();
+    for (count, printed, code) in [
+        (512, "a.c: not yet\n", 10),
+        (513, "a.c:1:20: undecided lines at 1:20\n", 3),
+    ] {
+        let mut text = String::from_str(alloc, "int f(int x,int y){__asm__(\"nop")?;
+        for _ in 1..count {
+            text.push_str("; nop")?;
+        }
+        text.push_str("\"::);return y;}\n")?;
+        let ending = check(alloc, text.as_str(), &NOTHING)?;
+        assert_eq!(rt; ending.printed.as_slice(), printed.as_bytes(), "{count}");
+        assert_eq!(rt; ending.code, code, "{count}");
     }
     Ok(())
 }
