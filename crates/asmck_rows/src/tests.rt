@@ -38,7 +38,7 @@ fn statements_are_judged(rt: HostRuntime) -> Result<(), Fail> {
         let ending = check(alloc, text.as_str(), &NOTHING)?;
         assert_eq!(rt;
             ending.printed.as_slice(),
-            b"a.c: not yet\n".as_slice(),
+            b"a.c:1:20: not yet\n".as_slice(),
             "{statement}"
         );
         assert_eq!(rt; ending.code, 10, "{statement}");
@@ -84,7 +84,7 @@ fn templates_have_at_most_100_lines(rt: HostRuntime) -> Result<(), Fail> {
 fn templates_have_at_most_512_instructions(rt: HostRuntime) -> Result<(), Fail> {
     let alloc = rt.alloc();
     for (count, printed, code) in [
-        (512, "a.c: not yet\n", 10),
+        (512, "a.c:1:20: not yet\n", 10),
         (513, "a.c:1:20: undecided lines at 1:20\n", 3),
     ] {
         let mut text = String::from_str(alloc, "int f(int x,int y){__asm__(\"nop")?;
@@ -103,7 +103,7 @@ fn templates_have_at_most_512_instructions(rt: HostRuntime) -> Result<(), Fail> 
 fn statements_have_at_most_30_operands(rt: HostRuntime) -> Result<(), Fail> {
     let alloc = rt.alloc();
     for (count, printed, code) in [
-        (30, "a.c: not yet\n", 10),
+        (30, "a.c:1:20: not yet\n", 10),
         (31, "a.c:1:20: undecided statement form at 1:20\n", 3),
     ] {
         let mut text = String::from_str(alloc, "int f(int x,int y){__asm__(\"\"::\"i\"(0)")?;
@@ -122,7 +122,7 @@ fn statements_have_at_most_30_operands(rt: HostRuntime) -> Result<(), Fail> {
 fn statements_have_at_most_64_shapes(rt: HostRuntime) -> Result<(), Fail> {
     let alloc = rt.alloc();
     for (count, printed, code) in [
-        (64, "a.c: not yet\n", 10),
+        (64, "a.c:1:20: not yet\n", 10),
         (65, "a.c:1:20: undecided shapes at 1:20\n", 3),
     ] {
         let mut text = String::from_str(alloc, "int f(int x,int y){__asm__(\"\"::\"r")?;

@@ -1,7 +1,7 @@
 -- Worked examples, which compute.
-use Rattle.std.proofs.Common.{◌≡◌, ℕ, List, [], ◌∷◌, true, false, Option, None, Some, codes, refl}
+use Rattle.std.proofs.Common.{◌≡◌, ℕ, [], ◌∷◌, refl}
 use Rattle.asm_core.specs.declared.mark.MarkKind.{MarkKind}
-use Rattle.ck_app.specs.Answer.{status_of, answer, judged_answer}
+use Rattle.ck_app.specs.Answer.{status_of}
 use Rattle.ck_app.specs.declared.judgement.Judged.{Judged}
 use Rattle.ck_app.specs.declared.status.Status.{Status}
 use Rattle.blk_check.specs.declared.verdict.Verdict.{Verdict}
@@ -32,5 +32,5 @@ of_broken : status_of (undecided 3 ∷ broken 9 ∷ []) ≡ Status.Rejected
 of_broken = refl
 
 -- one statement that isn't settled leaves the whole file so
-of_unsettled : judged_answer (codes "a.c") [] (broken 3 ∷ unsettled 9 ∷ []) ≡ answer (codes "a.c: not yet\n") Status.NotYet
+of_unsettled : status_of (broken 3 ∷ unsettled 9 ∷ []) ≡ Status.NotYet
 of_unsettled = refl

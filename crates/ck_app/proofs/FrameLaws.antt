@@ -1,27 +1,18 @@
 -- An accepted statement changes only what it declares.
-use Rattle.std.proofs.Common.{◌≡◌, ℕ, List, [], ◌∷◌, Option, None, Some, Result, Ok, Err, All, sym, ◌∙◌, ap, subst}
+use Rattle.std.proofs.Common.{ℕ, List, [], ◌∷◌, Option, None, Some, All, subst}
 use Rattle.std.proofs.lemmas.List.Elements.{All-nil, All-cons}
-use Rattle.asm_core.specs.Frame.{KeepsFrame}
-use Rattle.asm_core.specs.declared.statement.Parts.{Parts}
 use Rattle.asm_core.specs.declared.statement.Body.{Body}
 use Rattle.asm_core.specs.declared.statement.Statement.{Statement}
-use Rattle.asm_core.specs.declared.interface.Interface.{Interface}
-use Rattle.asm_core.specs.declared.interface.IfaceEnd.{IfaceEnd}
-use Rattle.asm_core.specs.declared.sym.Sym.{Sym}
 use Rattle.asm_statement.specs.Statements.{statements_of}
-use Rattle.blk_check.specs.FirstForm.{first_form_of}
 use Rattle.blk_check.specs.Judged.{IsVerdict}
-use Rattle.blk_check.specs.Proven.{Proven}
 use Rattle.blk_check.specs.declared.verdict.Verdict.{Verdict}
 use Rattle.blk_check.proofs.Accepted.{ok_keeps}
-use Rattle.c_tokens.specs.Tokens.{tokens_of}
-use Rattle.c_tokens.specs.declared.token.Token.{Token}
 use Rattle.c_words.specs.File.{File, file_of}
 use Rattle.c_scopes.specs.Seen.{Declared}
 use Rattle.c_decls.specs.Walk.{declarations_of}
 use Rattle.ck_ports.specs.Outside.{Outside}
 use Rattle.ck_app.specs.Judge.{OkKeepsFrames, KeepsFrames}
-use Rattle.ck_app.specs.Judgement.{IsJudgement, IsBodyVerdict, IsVerdictBy, interface_in}
+use Rattle.ck_app.specs.Judgement.{IsBodyVerdict, IsVerdictBy}
 use Rattle.ck_app.specs.Run.{OkIsFramed}
 use Rattle.ck_app.specs.Words.{Command}
 

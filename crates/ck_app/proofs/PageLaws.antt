@@ -1,5 +1,5 @@
 -- From the verdicts on a file's statements to the page of the file.
-use Rattle.std.proofs.Common.{◌≡◌, ℕ, List, [], ◌∷◌, Bool, true, false, if◌then◌else◌, Option, None, Some, IsSomeAnd, Result, Ok, Err, IsTrue, refl, sym, ◌∙◌, ap, subst, nat_lt, ◌<◌, ◌≤◌, length, arith}
+use Rattle.std.proofs.Common.{◌≡◌, ℕ, List, [], Bool, true, false, if◌then◌else◌, Option, None, Some, IsSomeAnd, Result, Ok, Err, IsTrue, refl, sym, ◌∙◌, ap, subst, nat_lt, ◌<◌, ◌≤◌, length, arith}
 use Rattle.std.specs.List.{list_any}
 use Rattle.std.proofs.lemmas.Bool.Decides.{nat_tests}
 use Rattle.asm_statement.specs.Statements.{statements_of}
@@ -9,10 +9,10 @@ use Rattle.c_tokens.specs.declared.token_end.TokenEnd.{TokenEnd}
 use Rattle.c_words.specs.File.{file_of}
 use Rattle.c_decls.specs.Walk.{declarations_of}
 use Rattle.ck_ports.specs.Outside.{Outside}
-use Rattle.ck_app.specs.Answer.{Answer, answer, most_bytes, judged_answer, tokens_answer, file_answer, AreVerdicts, IsFileAnswer, IsReadAnswer}
+use Rattle.ck_app.specs.Answer.{Answer, answer, most_bytes, judged_answer, tokens_answer, file_answer, IsFileAnswer, IsReadAnswer}
 use Rattle.ck_app.specs.Judgement.{AreJudged, is_broken, is_outside, is_open}
 use Rattle.ck_app.specs.declared.judgement.Judged.{Judged}
-use Rattle.ck_app.specs.Report.{too_large_line, bad_text_line}
+use Rattle.ck_app.specs.Report.{judged_lines, too_large_line, bad_text_line}
 use Rattle.ck_app.specs.Run.{IsPageOf}
 use Rattle.ck_app.specs.declared.status.Status.{Status}
 
@@ -61,17 +61,17 @@ is_of_file Status.WriteFault = false
 is_of_file Status.Memory = false
 is_of_file status = true
 
-of_tests : (unsettled broken outside : Bool) (name printed : List ℕ)
-    → is_of_file (if unsettled then answer name Status.NotYet else answer printed (if broken then Status.Rejected else (if outside then Status.Undecided else Status.Done))).status ≡ true
-of_tests true broken outside name printed = refl
-of_tests false true outside name printed = refl
-of_tests false false true name printed = refl
-of_tests false false false name printed = refl
+of_tests : (unsettled broken outside : Bool) (printed : List ℕ)
+    → is_of_file (answer printed (if unsettled then Status.NotYet else if broken then Status.Rejected else (if outside then Status.Undecided else Status.Done))).status ≡ true
+of_tests true broken outside printed = refl
+of_tests false true outside printed = refl
+of_tests false false true printed = refl
+of_tests false false false printed = refl
 
 of_tokens : (name text : List ℕ) (r : Result (List Token) TokenEnd) (js : List Judged) → is_of_file (tokens_answer name text r js).status ≡ true
 of_tokens name text (Err end) js = refl
 of_tokens name text (Ok ts) js =
-    of_tests (list_any (λ (j : Judged). is_open j.verdict) js) (list_any (λ (j : Judged). is_broken j.verdict) js) (list_any (λ (j : Judged). is_outside j.verdict) js) _ _
+    of_tests (list_any (λ (j : Judged). is_open j.verdict) js) (list_any (λ (j : Judged). is_broken j.verdict) js) (list_any (λ (j : Judged). is_outside j.verdict) js) (judged_lines name text js)
 
 of_either : (b : Bool) (x y : Answer) → is_of_file x.status ≡ true → is_of_file y.status ≡ true → is_of_file (if b then x else y).status ≡ true
 of_either true x y h k = h

@@ -1,5 +1,5 @@
 -- From pages to what a run has printed.
-use Rattle.std.proofs.Common.{◌≡◌, inl, inr, ℕ, List, [], Option, None, Some, true, refl, sym, subst, arith, IsTrue}
+use Rattle.std.proofs.Common.{◌≡◌, inl, inr, ℕ, List, Option, None, Some, true, refl, sym, subst, arith, IsTrue}
 use Rattle.std.proofs.lemmas.List.{append-nil}
 use Rattle.ck_ports.specs.Faults.{RisesAt}
 use Rattle.ck_ports.specs.Outside.{Outside}

@@ -1,5 +1,5 @@
 -- The words and what the named file holds have one answer.
-use Rattle.std.proofs.Common.{◌≡◌, ℕ, ◌<◌, ◌≤◌, nat_lt, List, [], ◌∷◌, length, Bool, true, false, if◌then◌else◌, Option, None, Some, Result, Ok, Err, refl, sym, ◌∙◌, ap, subst, arith}
+use Rattle.std.proofs.Common.{◌≡◌, ℕ, ◌≤◌, nat_lt, List, [], ◌∷◌, length, Bool, true, false, if◌then◌else◌, Option, None, Some, Result, Ok, Err, refl, sym, ◌∙◌, ap}
 use Rattle.std.proofs.lemmas.Bool.{ltb-false}
 use Rattle.asm_core.specs.declared.statement.Body.{Body}
 use Rattle.asm_core.specs.declared.statement.Statement.{Statement}
@@ -15,7 +15,7 @@ use Rattle.c_words.specs.File.{File, file_of}
 use Rattle.c_scopes.specs.Seen.{Declared}
 use Rattle.c_decls.specs.Walk.{declarations_of}
 use Rattle.ck_app.specs.Answer.{Answer, answer, most_bytes, tokens_answer, file_answer, AreVerdicts, IsFileAnswer, IsReadAnswer, IsCommandAnswer}
-use Rattle.ck_app.specs.Judgement.{interface_in, IsVerdictBy, IsBodyVerdict, IsJudgement, IsJudged, AreJudged}
+use Rattle.ck_app.specs.Judgement.{interface_in, IsVerdictBy, IsBodyVerdict, IsJudged, AreJudged}
 use Rattle.ck_app.specs.Report.{too_large_line}
 use Rattle.ck_app.specs.Words.{Command}
 use Rattle.ck_app.specs.declared.judgement.Judged.{Judged}

@@ -8,7 +8,7 @@ use Rattle.c_words.specs.File.{file_of}
 use Rattle.c_decls.specs.Walk.{declarations_of}
 use Rattle.asm_statement.specs.Statements.{statements_of}
 use Rattle.ck_app.specs.Judgement.{AreJudged, is_broken, is_outside, is_open}
-use Rattle.ck_app.specs.Report.{judged_lines, cannot_be_read_line, too_large_line, not_yet_line, bad_text_line}
+use Rattle.ck_app.specs.Report.{judged_lines, cannot_be_read_line, too_large_line, bad_text_line}
 use Rattle.ck_app.specs.Words.{Command, command_of, usage_line}
 use Rattle.ck_app.specs.declared.judgement.Judged.{Judged}
 use Rattle.ck_app.specs.declared.status.Status.{Status}
@@ -20,16 +20,17 @@ pub record Answer : Type 0 where
 abbrev pub answer : List ℕ → Status → Answer
 answer printed status = record { printed = printed; status = status }
 
--- a broken rule counts for more than a statement outside the tables; a file without statements is done
+-- A statement that isn't settled counts for more than a broken rule, and that for more than a statement outside the tables; a
+-- file without statements is done.
 abbrev pub status_of : List Judged → Status
 status_of js =
-    if list_any (λ (j : Judged). is_broken j.verdict) js then Status.Rejected
+    if list_any (λ (j : Judged). is_open j.verdict) js then Status.NotYet
+    else if list_any (λ (j : Judged). is_broken j.verdict) js then Status.Rejected
     else (if list_any (λ (j : Judged). is_outside j.verdict) js then Status.Undecided else Status.Done)
 
--- all lines in the order of the statements, where each of them is settled
+-- all lines in the order of the statements
 abbrev pub judged_answer : List ℕ → List ℕ → List Judged → Answer
-judged_answer name text js =
-    if list_any (λ (j : Judged). is_open j.verdict) js then answer (not_yet_line name) Status.NotYet else answer (judged_lines name text js) (status_of js)
+judged_answer name text js = answer (judged_lines name text js) (status_of js)
 
 -- the answer for a text with these tokens, where its statements have these verdicts
 abbrev pub tokens_answer : List ℕ → List ℕ → Result (List Token) TokenEnd → List Judged → Answer

@@ -1,5 +1,5 @@
 -- What is said of the asm statements of a file.
-use Rattle.std.specs.Prelude.{◌≡◌, ℕ, List, [], ◌∷◌, ◌++◌, map, Bool, true, false, Option, Result, Ok, Err}
+use Rattle.std.specs.Prelude.{◌≡◌, List, [], ◌∷◌, ◌++◌, map, Bool, true, false, Option, Result, Ok, Err}
 use Rattle.asm_core.specs.Interface.{interface_of}
 use Rattle.asm_core.specs.declared.operand.Operand.{Operand}
 use Rattle.asm_core.specs.declared.statement.Part.{Part}

@@ -1,5 +1,5 @@
 -- The printed lines.
-use Rattle.std.specs.Prelude.{ℕ, List, [], ◌∷◌, ◌++◌, codes, decimal}
+use Rattle.std.specs.Prelude.{ℕ, List, [], ◌++◌, codes, decimal}
 use Rattle.std.specs.List.{flat_map}
 use Rattle.asm_core.specs.Finding.{finding_text, rule_phrase}
 use Rattle.asm_core.specs.declared.finding.Finding.{Finding}
@@ -24,6 +24,10 @@ finding_line place f = place ++ codes "broken " ++ finding_text f ++ codes ": " 
 abbrev pub ok_line : List ℕ → List ℕ
 ok_line place = place ++ codes "ok\n"
 
+-- the line of a statement at that place that isn't settled, as `a.c:1:20: not yet`
+abbrev pub not_yet_line : List ℕ → List ℕ
+not_yet_line place = place ++ codes "not yet\n"
+
 -- a line for each finding
 abbrev pub finding_lines : List ℕ → List Finding → List ℕ
 finding_lines place findings = flat_map (finding_line place) findings
@@ -43,12 +47,12 @@ kind_name MarkKind.Instruction = codes "instruction"
 abbrev pub mark_line : List ℕ → MarkKind → ℕ × ℕ → List ℕ
 mark_line place kind at = place ++ codes "undecided " ++ kind_name kind ++ codes " at " ++ line_column_text at ++ codes "\n"
 
--- the lines of a statement whose keyword is at an offset; none of one that isn't settled
+-- the lines of a statement whose keyword is at an offset
 abbrev pub verdict_lines : List ℕ → List ℕ → ℕ → Verdict → List ℕ
 verdict_lines name text offset (Verdict.Ok proof) = ok_line (place_text name (line_col_of text offset))
 verdict_lines name text offset (Verdict.Broken findings) = finding_lines (place_text name (line_col_of text offset)) findings
 verdict_lines name text offset (Verdict.Outside mark) = mark_line (place_text name (line_col_of text offset)) mark.kind (line_col_of text mark.place)
-verdict_lines name text offset Verdict.NotYet = []
+verdict_lines name text offset Verdict.NotYet = not_yet_line (place_text name (line_col_of text offset))
 
 -- the lines of the statements of a file
 abbrev pub judged_lines : List ℕ → List ℕ → List Judged → List ℕ
@@ -59,9 +63,6 @@ cannot_be_read_line name = name ++ codes ": cannot be read\n"
 
 abbrev pub too_large_line : List ℕ → List ℕ
 too_large_line name = name ++ codes ": too large\n"
-
-abbrev pub not_yet_line : List ℕ → List ℕ
-not_yet_line name = name ++ codes ": not yet\n"
 
 -- what a fault of a text is called, and its offset
 abbrev pub fault_of : TokenEnd → List ℕ × ℕ

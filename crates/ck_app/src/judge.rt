@@ -12,8 +12,8 @@ ghost use Rattle.ck_app.specs.Judge.{answer_in};
 ghost use Rattle.ck_app.specs.Judgement.{AreJudged};
 
 use crate::Status;
-use crate::judgement::{Judged, any_open, judge_statements, status};
-use crate::report::{bad_text_line, judged_lines, not_yet_line};
+use crate::judgement::{Judged, judge_statements, status};
+use crate::report::{bad_text_line, judged_lines};
 use asm_core::{Items, Memory, Statement};
 use asm_statement::statements;
 use c_decls::scopes;
@@ -86,12 +86,6 @@ fn page_of(alloc: Global, name: &str, text: &[u8], judged: &[Judged]) -> Result<
     requires { length text.now ≤ MAX_FILE_BYTES }
     ensures { IfOk result (λ page. answer_in page ≡ judged_answer name.now text.now judged.now) }
 {
-    if any_open(judged) {
-        return Ok(Page {
-            text: not_yet_line(alloc, name)?,
-            status: Status::NotYet,
-        });
-    }
     Ok(Page {
         text: judged_lines(alloc, name, text, judged)?,
         status: status(judged),

@@ -134,10 +134,13 @@ fn append_operands(
     Ok(())
 }
 
-/// How a run ends that says this of the statements of a file, each of them being settled.
+/// How a run ends that says this of the statements of a file.
 pub fn status(judged: &[Judged]) -> Status
     ensures { result ≡ status_of judged.now }
 {
+    if any_open(judged) {
+        return Status::NotYet;
+    }
     if any_broken(judged) {
         return Status::Rejected;
     }
@@ -162,7 +165,7 @@ fn any_outside(judged: &[Judged]) -> bool
 }
 
 /// Whether some statement isn't settled.
-pub fn any_open(judged: &[Judged]) -> bool
+fn any_open(judged: &[Judged]) -> bool
     ensures { result ≡ list_any (λ (j : Judged). is_open j.verdict) judged.now }
 {
     judged.iter().any(|statement| is_open(&statement.verdict))

@@ -123,7 +123,7 @@ pub fn judged_lines(
     Ok(lines)
 }
 
-/// Appends the lines of the statement whose keyword is at that offset; none of one that isn't settled.
+/// Appends the lines of the statement whose keyword is at that offset.
 fn append_verdict(
     lines: &mut String,
     places: &Places<'_>,
@@ -138,7 +138,7 @@ fn append_verdict(
             append_findings(lines, places.place(offset), findings.as_slice())
         }
         Verdict::Outside(mark) => append_mark(lines, places, offset, *mark),
-        Verdict::NotYet => Ok(()),
+        Verdict::NotYet => append_not_yet(lines, places.place(offset)),
     }
 }
 
@@ -146,6 +146,13 @@ fn append_ok(lines: &mut String, place: Place<'_>) -> Result<(), Memory>
     ensures { OnOk result (string_bytes lines.new ≡ string_bytes lines.old ++ ok_line (place_text place.entry.name.now (place.entry.line, place.entry.column))) }
 {
     write!(lines, "{place}ok\n")?;
+    Ok(())
+}
+
+fn append_not_yet(lines: &mut String, place: Place<'_>) -> Result<(), Memory>
+    ensures { OnOk result (string_bytes lines.new ≡ string_bytes lines.old ++ not_yet_line (place_text place.entry.name.now (place.entry.line, place.entry.column))) }
+{
+    write!(lines, "{place}not yet\n")?;
     Ok(())
 }
 
@@ -225,12 +232,6 @@ pub fn too_large_line(alloc: Global, name: &str) -> Result<String, Memory>
     ensures { IfOk result (λ line. string_bytes line ≡ too_large_line name.now) }
 {
     Ok(format!(in alloc; "{name}: too large\n")?)
-}
-
-pub fn not_yet_line(alloc: Global, name: &str) -> Result<String, Memory>
-    ensures { IfOk result (λ line. string_bytes line ≡ not_yet_line name.now) }
-{
-    Ok(format!(in alloc; "{name}: not yet\n")?)
 }
 
 /// The line of a fault of the text.

@@ -149,7 +149,7 @@ pub static INTERFACES: [Row; 15] = [
     },
     Row {
         statement: "__asm__(\"\":\"=a\"(y):\"a\"(x):\"edx\")",
-        printed: "a.c: not yet\n",
+        printed: "a.c:1:20: not yet\n",
         code: 10,
     },
     Row {

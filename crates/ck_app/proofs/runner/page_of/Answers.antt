@@ -1,4 +1,4 @@
-use Rattle.std.proofs.Common.{◌≡◌, Some, Err, sym, ◌∙◌, ap}
+use Rattle.std.proofs.Common.{Some, Err, sym, ◌∙◌, ap}
 use Rattle.std.specs.String.{string_bytes}
 use Rattle.ck_app.proofs.PageLaws.{judged_page, too_large_page}
 use Rattle.ck_app.proofs.runner.page_of.Goals as goal
