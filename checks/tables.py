@@ -2,8 +2,8 @@
 """Runs the tables of checks/tables against the crates below the checker's, built without a proof.
 
 The tables say what tokens, literals, scopes, declarations, layouts, values, expressions and asm statements of short
-texts are, where asm operands may be, and how lines of templates are read, worked out by hand or by gcc; nothing is
-proved of them, so they stand in no crate. Both sizes are the same. Status 0 where all agree, else 1.
+texts are, where asm operands may be, how lines of templates are read, and what steps of instructions do, worked out by
+hand or by gcc; nothing is proved of them, so they stand in no crate. Both sizes are the same. Status 0 where all agree, else 1.
 """
 import pathlib
 import subprocess
@@ -14,7 +14,7 @@ from support.check import arguments
 from support.trial import ROOT, crate_in
 
 TABLES = ROOT / "checks/tables"
-ASM = "asm_constraints asm_core asm_places asm_statement asm_template att_reader bitflags"
+ASM = "asm_constraints asm_core asm_places asm_statement asm_template att_reader bitflags x86_table"
 C = "c_decls c_exprs c_literals c_scopes c_tokens c_types c_values"
 
 
