@@ -1,0 +1,1 @@
+int f(int x){__asm__("nop; jmp 1f"::"r"(x));return x;}
