@@ -1,7 +1,10 @@
 // Runs over memory, and what came of them.
+ghost use Rattle.std.specs.Prelude.{◌≡◌};
+ghost use Rattle.ck_ports.specs.declared.files.Mode.TheVariants.{Closed};
+
 use asm_core::Memory;
 use ck_app::run;
-use ck_ports::{MemFiles, MemSink};
+use ck_ports::{Files, MemFiles, MemSink};
 use std::alloc::{AllocError, Global};
 
 /// The numbers of the calls that are to fail.
@@ -24,6 +27,27 @@ pub struct Ending {
     pub printed: Vec<u8>,
 }
 
+/// What the files of a run hold.
+#[derive(Clone, Copy)]
+pub struct Held<'a> {
+    pub accepted: &'a [u8],
+    pub broken: &'a [u8],
+    pub undecided: &'a [u8],
+    pub bad: &'a [u8],
+    pub large: &'a [u8],
+}
+
+/// Runs asmck with these words after its name, over the files `a.c`, `broken.c`, `undecided.c`, `bad.c` and `large.c`.
+pub fn run_over(alloc: Global, words: &[&str], held: &Held<'_>) -> Result<Ending, Memory> {
+    let mut files = MemFiles::new(alloc, &[])?;
+    files.put("a.c", held.accepted)?;
+    files.put("broken.c", held.broken)?;
+    files.put("undecided.c", held.undecided)?;
+    files.put("bad.c", held.bad)?;
+    files.put("large.c", held.large)?;
+    ended(alloc, words, &mut files, &[])
+}
+
 /// Runs asmck with these words after its name, over one file `a.c` of these bytes.
 pub fn run_with(
     alloc: Global,
@@ -33,9 +57,21 @@ pub fn run_with(
 ) -> Result<Ending, Memory> {
     let mut files = MemFiles::new(alloc, failing.files)?;
     files.put("a.c", bytes)?;
-    let mut out = MemSink::new(alloc, failing.sink)?;
+    ended(alloc, words, &mut files, failing.sink)
+}
+
+/// How a run over these files ends, with a sink whose calls of these numbers fail.
+fn ended<F: Files>(
+    alloc: Global,
+    words: &[&str],
+    files: &mut F,
+    failing: &[u64],
+) -> Result<Ending, Memory>
+    requires { (F.outside files.old).mode ≡ Closed }
+{
+    let mut out = MemSink::new(alloc, failing)?;
     let owned = owned_words(alloc, words)?;
-    let status = run(alloc, owned.as_slice(), &mut files, &mut out);
+    let status = run(alloc, owned.as_slice(), files, &mut out);
     Ok(Ending {
         code: status.code(),
         printed: out.bytes().to_vec(alloc)?,

@@ -1,8 +1,12 @@
+mod calls;
+mod paths;
 mod rows;
 
-use crate::runs::{Ending, Failing, NOTHING, run_with};
+use crate::runs::{Ending, Failing, Held, NOTHING, run_over, run_with};
 use asm_core::Memory;
-use rows::{FILES, INSTRUCTIONS, INTERFACES, JUDGED, NOT_YET, OPERANDS, Row, USAGE, USAGES};
+use calls::{ACCEPTED, BAD, BROKEN, SEVERAL, UNDECIDED, USAGE, USAGES};
+use paths::{PATHS, STRICT};
+use rows::{FILES, INSTRUCTIONS, INTERFACES, JUDGED, OPERANDS, Row};
 use std::alloc::Global;
 use std::process::Abort;
 use std::test::Fail;
@@ -11,11 +15,20 @@ fn check(alloc: Global, text: &str, failing: &Failing<'_>) -> Result<Ending, Mem
     run_with(alloc, &["check", "a.c"], text.as_bytes(), failing)
 }
 
+const CHECK: [&str; 2] = ["check", "a.c"];
+
+const STRICT_CHECK: [&str; 3] = ["check", "--strict-cc", "a.c"];
+
 /// Whether each statement leads to what its row says.
-fn statements_print(rt: &impl Abort, alloc: Global, rows: &[Row]) -> Result<(), Fail> {
+fn statements_print(
+    rt: &impl Abort,
+    alloc: Global,
+    words: &[&str],
+    rows: &[Row],
+) -> Result<(), Fail> {
     for row in rows {
         let text = format!(in alloc; "int f(int x,int y){{{};return y;}}\n", row.statement)?;
-        let ending = check(alloc, text.as_str(), &NOTHING)?;
+        let ending = run_with(alloc, words, text.as_bytes(), &NOTHING)?;
         assert_eq!(rt;
             ending.printed.as_slice(),
             row.printed.as_bytes(),
@@ -30,19 +43,11 @@ fn statements_print(rt: &impl Abort, alloc: Global, rows: &[Row]) -> Result<(), 
 #[test]
 fn statements_are_judged(rt: HostRuntime) -> Result<(), Fail> {
     let alloc = rt.alloc();
-    statements_print(&rt, alloc, &JUDGED)?;
-    statements_print(&rt, alloc, &INTERFACES)?;
-    statements_print(&rt, alloc, &INSTRUCTIONS)?;
-    for statement in &NOT_YET {
-        let text = format!(in alloc; "int f(int x,int y){{{statement};return y;}}\n")?;
-        let ending = check(alloc, text.as_str(), &NOTHING)?;
-        assert_eq!(rt;
-            ending.printed.as_slice(),
-            b"a.c:1:20: not yet\n".as_slice(),
-            "{statement}"
-        );
-        assert_eq!(rt; ending.code, 10, "{statement}");
-    }
+    statements_print(&rt, alloc, &CHECK, &JUDGED)?;
+    statements_print(&rt, alloc, &CHECK, &PATHS)?;
+    statements_print(&rt, alloc, &CHECK, &INTERFACES)?;
+    statements_print(&rt, alloc, &CHECK, &INSTRUCTIONS)?;
+    statements_print(&rt, alloc, &STRICT_CHECK, &STRICT)?;
     Ok(())
 }
 
@@ -63,28 +68,10 @@ fn operands_have_values_of_four_bytes(rt: HostRuntime) -> Result<(), Fail> {
 }
 
 #[test]
-fn templates_have_at_most_100_lines(rt: HostRuntime) -> Result<(), Fail> {
-    let alloc = rt.alloc();
-    for (count, code) in [(99, 0), (100, 10)] {
-        let mut text = String::from_str(alloc, "int f(int x,int y){__asm__(\"movl %1,%0")?;
-        for _ in 0..count {
-            text.push_str("; movl $7,%0")?;
-        }
-        text.push_str("\":\"=r\"(y):\"r\"(x));return y;}\n")?;
-        assert_eq!(rt;
-            check(alloc, text.as_str(), &NOTHING)?.code,
-            code,
-            "{count}"
-        );
-    }
-    Ok(())
-}
-
-#[test]
 fn templates_have_at_most_512_instructions(rt: HostRuntime) -> Result<(), Fail> {
     let alloc = rt.alloc();
     for (count, printed, code) in [
-        (512, "a.c:1:20: not yet\n", 10),
+        (512, "a.c:1:20: ok\n", 0),
         (513, "a.c:1:20: undecided lines at 1:20\n", 3),
     ] {
         let mut text = String::from_str(alloc, "int f(int x,int y){__asm__(\"nop")?;
@@ -103,7 +90,7 @@ fn templates_have_at_most_512_instructions(rt: HostRuntime) -> Result<(), Fail> 
 fn statements_have_at_most_30_operands(rt: HostRuntime) -> Result<(), Fail> {
     let alloc = rt.alloc();
     for (count, printed, code) in [
-        (30, "a.c:1:20: not yet\n", 10),
+        (30, "a.c:1:20: ok\n", 0),
         (31, "a.c:1:20: undecided statement form at 1:20\n", 3),
     ] {
         let mut text = String::from_str(alloc, "int f(int x,int y){__asm__(\"\"::\"i\"(0)")?;
@@ -122,7 +109,7 @@ fn statements_have_at_most_30_operands(rt: HostRuntime) -> Result<(), Fail> {
 fn statements_have_at_most_64_shapes(rt: HostRuntime) -> Result<(), Fail> {
     let alloc = rt.alloc();
     for (count, printed, code) in [
-        (64, "a.c:1:20: not yet\n", 10),
+        (64, "a.c:1:20: ok\n", 0),
         (65, "a.c:1:20: undecided shapes at 1:20\n", 3),
     ] {
         let mut text = String::from_str(alloc, "int f(int x,int y){__asm__(\"\"::\"r")?;
@@ -228,5 +215,53 @@ fn faults_end_a_run(rt: HostRuntime) -> Result<(), Fail> {
     )?;
     assert_eq!(rt; both.printed.as_slice(), b"".as_slice());
     assert_eq!(rt; both.code, 5);
+    Ok(())
+}
+
+#[test]
+fn files_are_taken_in_their_order(rt: HostRuntime) -> Result<(), Fail> {
+    let alloc = rt.alloc();
+    let blanks = vec![in alloc; b' '; 16_777_217]?;
+    let held = Held {
+        accepted: ACCEPTED.as_bytes(),
+        broken: BROKEN.as_bytes(),
+        undecided: UNDECIDED.as_bytes(),
+        bad: BAD.as_bytes(),
+        large: blanks.as_slice(),
+    };
+    for row in &SEVERAL {
+        let ending = run_over(alloc, row.words, &held)?;
+        assert_eq!(rt; ending.printed.as_slice(), row.printed.as_bytes());
+        assert_eq!(rt; ending.code, row.code);
+    }
+    Ok(())
+}
+
+#[test]
+fn a_fault_ends_a_run_over_files(rt: HostRuntime) -> Result<(), Fail> {
+    let alloc = rt.alloc();
+    let words = ["check", "a.c", "a.c"];
+    let text = ACCEPTED.as_bytes();
+
+    // The second report can't be written.
+    let sink = Failing {
+        files: &[],
+        sink: &[2],
+    };
+    let written = run_with(alloc, &words, text, &sink)?;
+    assert_eq!(rt; written.printed.as_slice(), b"a.c:1:20: ok\n".as_slice());
+    assert_eq!(rt; written.code, 5);
+
+    // The second file can't be opened: a file takes an open, two reads and a close.
+    let files = Failing {
+        files: &[5],
+        sink: &[],
+    };
+    let read = run_with(alloc, &words, text, &files)?;
+    assert_eq!(rt;
+        read.printed.as_slice(),
+        b"a.c:1:20: ok\na.c: cannot be read\n".as_slice()
+    );
+    assert_eq!(rt; read.code, 4);
     Ok(())
 }

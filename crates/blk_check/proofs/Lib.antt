@@ -1,16 +1,14 @@
-pub mod Accepted
 pub mod AgreementLaws
-mod Examples
-pub mod FormLaws
-pub mod Frame
-pub mod KnownLaws
-mod Lines
 pub mod LiveLaws
-mod Numbers
 mod PieceLaws
 pub mod ReadingLaws
 pub mod RoomLaws
+pub mod RoomyLaws
 mod ShapeExamples
 pub mod ShortLaws
 pub mod Unique
-mod VerdictLaws
+pub mod BlockLaws
+pub mod GoalLaws
+pub mod StageLaws
+pub mod ReadLaws
+pub mod GraphSteps

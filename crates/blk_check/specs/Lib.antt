@@ -1,5 +1,4 @@
-pub mod FirstForm
 pub mod Judged
 pub mod Proven
 pub mod Readable
-pub mod Verdict
+pub mod Stages

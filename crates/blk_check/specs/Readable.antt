@@ -1,6 +1,6 @@
 -- What is judged of a statement's instructions under all live shapes at once: that they have a reading, that the shapes agree on it, and
 -- that jumps stay in the block. This project's own.
-use Rattle.std.specs.Prelude.{◌≡◌, ◌⊎◌, ℕ, ◌+◌, ◌^◌, ◌==◌, ◌<◌, ◌≤◌, ◌&&◌, ◌||◌, nat_lt, length, All, not, bit_and, bit_or, fold, find, map, is_none, option_map, slice_get, slice_index, List, [], ◌∷◌, ◌++◌, Bool, true, false, Option, None, Some, Result, Ok, Err, if◌then◌else◌}
+use Rattle.std.specs.Prelude.{◌≡◌, ◌⊎◌, ℕ, ◌+◌, ◌^◌, ◌==◌, ◌<◌, ◌≤◌, ◌&&◌, ◌||◌, nat_lt, length, All, not, bit_and, bit_or, fold, find, map, is_none, option_map, slice_get, slice_index, List, [], ◌∷◌, ◌++◌, Bool, true, false, Option, None, Some, Result, Ok, Err, IsSome, if◌then◌else◌}
 use Rattle.std.specs.List.{list_any, list_all}
 use Rattle.asm_core.specs.Lists.{count_from, optional_at}
 use Rattle.asm_core.specs.Reg.{reg_number}
@@ -34,8 +34,10 @@ use Rattle.asm_core.specs.declared.interface.Interface.{Interface}
 use Rattle.asm_core.specs.declared.company.Places.{Places}
 use Rattle.asm_core.specs.declared.lines.JumpTarget.{JumpTarget}
 use Rattle.asm_core.specs.declared.lines.Named.{Named}
+use Rattle.asm_core.specs.declared.lines.Graph.{Graph}
 use Rattle.asm_core.specs.declared.lines.Lines.{Lines}
 use Rattle.asm_core.specs.declared.lines.LinesEnd.{LinesEnd}
+use Rattle.blk_flow.specs.Graph.{graph_of}
 
 -- ---- live shapes
 
@@ -220,3 +222,12 @@ finding_at rule (Some line) = record { rule = rule; line = line; cell = Cell.Not
 -- U1 and J1, each once
 unfoldable pub shape_findings : Interface → List Shape → List Lines → List Finding
 shape_findings i live xs = finding_at Rule.U1 (u1_line i (map (all_places i) live) xs) ++ finding_at Rule.J1 (j1_line xs)
+
+-- ---- blocks
+
+-- lines that are all read, whose jumps stay inside, have a block
+pub record HasBlock (x : Lines) : Type 0 where
+  pub read : All (λ s. IsSome s) x.insts
+  pub few : length x.insts ≤ 512
+  pub graph : Graph
+  pub is_graph : graph_of x ≡ Ok graph

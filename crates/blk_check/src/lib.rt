@@ -2,9 +2,8 @@
 #![tactic(auto)]
 
 mod agreement;
+mod blocks;
 mod differing;
-mod form;
-mod line;
 mod live;
 mod readings;
 mod room;

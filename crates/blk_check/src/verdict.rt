@@ -1,23 +1,24 @@
-ghost use Rattle.std.specs.Prelude.{◌≡◌, ◌==◌, ◌++◌, not, slice_get, All, IfOk, OnOk};
-ghost use Rattle.std.specs.List.{list_all, list_any};
+ghost use Rattle.std.specs.Prelude.{◌≡◌, [], All, IfOk};
 ghost use Rattle.asm_core.specs.Shape.{shapes_of};
 ghost use Rattle.asm_core.specs.WellFormed.{IsInterface};
-ghost use Rattle.blk_check.specs.Judged.{IsInterfaceOf, IsVerdict, IsShapesVerdict, IsLiveVerdict, IsReadVerdict, IsLinesVerdict, OkKeepsFrame, shapes_mark, lines_mark, no_room, has_words, lines_in, lines_in_body};
+ghost use Rattle.blk_check.specs.Judged.{AnyHasRoom, IsInterfaceOf, IsVerdict, IsShapesVerdict, IsLiveVerdict, IsReadVerdict, IsBlocksVerdict, IsPathsVerdict, IsAccepted, graphs_of, shapes_mark, lines_mark, no_room};
+ghost use Rattle.blk_deps.specs.Findings.{AreFindings, IsStackBroken, stack_violations};
 ghost use Rattle.blk_check.specs.Readable.{IsShort, first_unread};
-ghost use Rattle.blk_check.specs.Verdict.{verdict_of, is_input_alone, finding_if, at_end, moves_to_itself, sets_flags};
+ghost use Rattle.blk_check.specs.Stages.{HasReadings, Agrees, HasBlocks};
 
 use crate::agreement::shape_findings;
-use crate::form::{first_form, reads};
+use crate::blocks::blocks;
 use crate::live::live_shapes;
 use crate::readings::readings;
-use crate::room::any_has_room;
+use crate::room::{any_has_room, first_roomy};
 use crate::template::pieces_in;
 use crate::unread::first_unread;
 use asm_core::{
-    Body, Cell, Duplicate, END_LINE, Finding, Interface, Items, Lines, LinesEnd, Mark, MarkKind,
-    Memory, Op, OperandIface, Role, Rule, Shape, Statement, Sym,
+    Cell, Duplicate, Finding, Graph, Interface, Items, Lines, LinesEnd, Mark, MarkKind, Memory,
+    Rule, Shape, Statement,
 };
 use asm_places::{ShapesEnd, shapes};
+use blk_deps::{path_findings, stack_findings};
 use std::alloc::Global;
 use std::marker::Model;
 
@@ -26,7 +27,8 @@ use std::marker::Model;
 pub struct Proof {
     statement: Statement,
     interface: Interface,
-    lines: Items<Sym>,
+    shape: Shape,
+    graph: Graph,
 }
 
 impl Model for Proof {
@@ -34,7 +36,7 @@ impl Model for Proof {
 
     ghost Value = { Proven };
 
-    ghost view = { λ p. record { statement = p.statement; interface = p.interface; lines = p.lines } };
+    ghost view = { λ p. record { statement = p.statement; interface = p.interface; shape = p.shape; graph = p.graph } };
 }
 
 impl Proof {
@@ -44,11 +46,18 @@ impl Proof {
         &self.interface
     }
 
-    /// The instructions of the template.
-    pub fn lines(&self) -> &[Sym]
-        ensures { result.now ≡ self.now.lines }
+    /// The first shape that has a roomy placement.
+    pub fn shape(&self) -> &Shape
+        ensures { result.now ≡ self.now.shape }
     {
-        self.lines.as_slice()
+        &self.shape
+    }
+
+    /// The block of the lines that are read under that shape.
+    pub fn graph(&self) -> &Graph
+        ensures { result.now ≡ self.now.graph }
+    {
+        &self.graph
     }
 }
 
@@ -60,16 +69,13 @@ pub enum Verdict {
     Broken(Items<Finding>),
     /// What lies outside the tables.
     Outside(Mark),
-    /// Its template is of no form that is judged so far.
-    NotYet,
 }
 
 /// Judges a statement by its interface.
 pub fn check(alloc: Global, statement: &Statement, interface: &Interface) -> Result<Verdict, Memory>
     requires interface { IsInterface interface.now }
     requires stated { IsInterfaceOf interface.now statement.now }
-    ensures verdict { IfOk result (IsVerdict statement.now interface.now) }
-    ensures frame { IfOk result OkKeepsFrame }
+    ensures { IfOk result (IsVerdict statement.now interface.now) }
 {
     let shapes = match shapes(alloc, interface) {
         Ok(shapes) => shapes,
@@ -89,8 +95,7 @@ fn check_shapes(
     requires interface { IsInterface interface.now }
     requires stated { IsInterfaceOf interface.now statement.now }
     requires shapes { shapes.now ≡ shapes_of interface.now }
-    ensures verdict { IfOk result (IsShapesVerdict statement.now interface.now shapes.now) }
-    ensures frame { IfOk result OkKeepsFrame }
+    ensures { IfOk result (IsShapesVerdict statement.now interface.now shapes.now) }
 {
     if any_has_room(interface, shapes) {
         return check_live(alloc, statement, interface, shapes);
@@ -108,8 +113,8 @@ fn check_live(
     requires interface { IsInterface interface.now }
     requires stated { IsInterfaceOf interface.now statement.now }
     requires shapes { shapes.now ≡ shapes_of interface.now }
-    ensures verdict { IfOk result (IsLiveVerdict statement.now interface.now shapes.now) }
-    ensures frame { IfOk result OkKeepsFrame }
+    requires room { AnyHasRoom interface.now shapes.now }
+    ensures { IfOk result (IsLiveVerdict statement.now interface.now shapes.now) }
 {
     let live = live_shapes(alloc, interface, shapes)?;
     let pieces = pieces_in(alloc, statement, interface)?;
@@ -136,17 +141,17 @@ fn check_readings(
 ) -> Result<Verdict, Memory>
     requires interface { IsInterface interface.now }
     requires short { All IsShort readings.now }
-    ensures verdict { IfOk result (IsReadVerdict statement.now interface.now live.now readings.now (first_unread readings.now)) }
-    ensures frame { IfOk result OkKeepsFrame }
+    requires readings { HasReadings statement.now interface.now live.now readings.now }
+    ensures { IfOk result (IsReadVerdict statement.now interface.now live.now readings.now (first_unread readings.now)) }
 {
     if let Some(mark) = first_unread(readings) {
         return Ok(Verdict::Outside(mark));
     }
     let findings = shape_findings(alloc, interface, live, readings)?;
-    if findings.is_empty() {
-        return check_lines(alloc, statement, interface);
+    if !findings.is_empty() {
+        return Ok(Verdict::Broken(findings));
     }
-    Ok(Verdict::Broken(findings))
+    check_blocks(alloc, statement, interface, live, readings)
 }
 
 fn lines_mark(statement: &Statement) -> Mark
@@ -178,139 +183,66 @@ fn no_room() -> Finding
     }
 }
 
-/// Judges the lines of a statement.
-fn check_lines(
+/// Judges a statement by the blocks of its lines under the live shapes.
+fn check_blocks(
     alloc: Global,
     statement: &Statement,
     interface: &Interface,
+    live: &[Shape],
+    readings: &[Lines],
 ) -> Result<Verdict, Memory>
-    ensures verdict { IfOk result (IsLinesVerdict statement.now interface.now) }
-    ensures frame { IfOk result OkKeepsFrame }
+    requires interface { IsInterface interface.now }
+    requires short { All IsShort readings.now }
+    requires agrees { Agrees statement.now interface.now live.now readings.now }
+    ensures { IfOk result (IsBlocksVerdict statement.now interface.now live.now (graphs_of readings.now)) }
 {
-    let Some(lines) = lines_in(alloc, statement, interface)? else {
-        return Ok(Verdict::NotYet);
-    };
-    let findings = findings(alloc, interface, lines.as_slice())?;
-    if !findings.is_empty() {
-        return Ok(Verdict::Broken(findings));
+    let graphs = blocks(alloc, readings)?;
+    let on_stack = stack_findings(alloc, graphs.as_slice())?;
+    if !on_stack.is_empty() {
+        return Ok(Verdict::Broken(on_stack));
     }
+    check_paths(alloc, statement, interface, live, graphs)
+}
+
+/// Judges a statement by all paths of its blocks, which leave the stack level.
+fn check_paths(
+    alloc: Global,
+    statement: &Statement,
+    interface: &Interface,
+    live: &[Shape],
+    graphs: Items<Graph>,
+) -> Result<Verdict, Memory>
+    requires interface { IsInterface interface.now }
+    requires blocks { HasBlocks statement.now interface.now live.now graphs }
+    requires level { AreFindings (IsStackBroken graphs) stack_violations [] }
+    ensures { IfOk result (IsPathsVerdict statement.now interface.now live.now graphs) }
+{
+    let on_paths = path_findings(alloc, interface, live, graphs.as_slice())?;
+    if !on_paths.is_empty() {
+        return Ok(Verdict::Broken(on_paths));
+    }
+    accepted(alloc, statement, interface, live, graphs)
+}
+
+/// That the statement is accepted, with what it was judged by.
+fn accepted(
+    alloc: Global,
+    statement: &Statement,
+    interface: &Interface,
+    live: &[Shape],
+    mut graphs: Items<Graph>,
+) -> Result<Verdict, Memory>
+    requires interface { IsInterface interface.now }
+    requires blocks { HasBlocks statement.now interface.now live.now graphs }
+    ensures { IfOk result (IsAccepted statement.now interface.now) }
+{
+    let Some((number, shape)) = first_roomy(interface, live) else {
+        unreachable!();
+    };
     Ok(Verdict::Ok(Proof {
         statement: statement.duplicate(alloc)?,
         interface: interface.duplicate(alloc)?,
-        lines,
+        shape: shape.duplicate(alloc)?,
+        graph: graphs.remove(number),
     }))
-}
-
-/// The lines of a statement in the form that is judged so far; none of another one.
-fn lines_in(
-    alloc: Global,
-    statement: &Statement,
-    interface: &Interface,
-) -> Result<Option<Items<Sym>>, Memory>
-    ensures { IfOk result (λ lines. lines ≡ lines_in statement.now interface.now) }
-{
-    if !has_words(interface.operands.as_slice()) {
-        return Ok(None);
-    }
-    lines_in_body(alloc, &statement.body)
-}
-
-/// Whether there are operands, and each has 4 bytes.
-fn has_words(operands: &[OperandIface]) -> bool
-    ensures { result ≡ has_words operands.now }
-{
-    match operands {
-        [] => false,
-        some => are_words(some),
-    }
-}
-
-/// Whether each operand has 4 bytes.
-fn are_words(operands: &[OperandIface]) -> bool
-    ensures { result ≡ list_all (λ (o : OperandIface). o.size == 4) operands.now }
-{
-    operands.iter().all(|operand| operand.size == 4)
-}
-
-fn lines_in_body(alloc: Global, body: &Body) -> Result<Option<Items<Sym>>, Memory>
-    ensures { IfOk result (λ lines. lines ≡ lines_in_body body.now) }
-{
-    match body {
-        Body::Parts(parts) => first_form(alloc, parts),
-        Body::Outside(_) => Ok(None),
-    }
-}
-
-#[tactic(auto, using(crate::proofs::VerdictLaws::text_laws))]
-fn findings(alloc: Global, interface: &Interface, lines: &[Sym]) -> Result<Items<Finding>, Memory>
-    ensures { IfOk result (λ findings. findings ≡ verdict_of interface.now lines.now) }
-{
-    let input_changed = is_input_alone(interface) && changes_operand(lines);
-    let flags_changed = changes_flags(lines) && !interface.cc;
-    let mut findings = Items::new(alloc);
-    push_if(
-        &mut findings,
-        input_changed,
-        at_end(Rule::W2, Cell::Operand(0)),
-    )?;
-    push_if(&mut findings, flags_changed, at_end(Rule::W3, Cell::Cc))?;
-    Ok(findings)
-}
-
-fn push_if(findings: &mut Items<Finding>, broken: bool, finding: Finding) -> Result<(), Memory>
-    ensures { OnOk result (findings.new ≡ findings.old ++ finding_if broken finding) }
-{
-    if broken {
-        findings.push(finding)?;
-    }
-    Ok(())
-}
-
-/// Whether operand 0 is an input alone.
-fn is_input_alone(interface: &Interface) -> bool
-    ensures { result ≡ is_input_alone (slice_get interface.now.operands 0) }
-{
-    match interface.operands.get(0) {
-        Some(operand) => operand.role == Role::In,
-        None => false,
-    }
-}
-
-/// Whether some line may change the value of operand 0.
-fn changes_operand(lines: &[Sym]) -> bool
-    ensures { result ≡ list_any (λ line. not (moves_to_itself line)) lines.now }
-{
-    lines.iter().any(|line| !moves_to_itself(line))
-}
-
-/// Whether the line moves operand 0 to itself.
-fn moves_to_itself(line: &Sym) -> bool
-    ensures { result ≡ moves_to_itself line.now }
-{
-    line.op == Op::Mov && reads(line, 0)
-}
-
-/// Whether some line may change a flag.
-fn changes_flags(lines: &[Sym]) -> bool
-    ensures { result ≡ list_any sets_flags lines.now }
-{
-    lines.iter().any(sets_flags)
-}
-
-/// Whether the line may change a flag.
-fn sets_flags(line: &Sym) -> bool
-    ensures { result ≡ sets_flags line.now }
-{
-    !matches!(line.op, Op::Mov)
-}
-
-fn at_end(rule: Rule, cell: Cell) -> Finding
-    ensures { result ≡ at_end rule cell }
-{
-    Finding {
-        rule,
-        line: END_LINE,
-        cell,
-        other: Cell::Nothing,
-    }
 }

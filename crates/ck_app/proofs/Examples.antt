@@ -1,22 +1,18 @@
 -- Worked examples, which compute.
 use Rattle.std.proofs.Common.{◌≡◌, ℕ, [], ◌∷◌, refl}
 use Rattle.asm_core.specs.declared.mark.MarkKind.{MarkKind}
-use Rattle.ck_app.specs.Answer.{status_of}
-use Rattle.ck_app.specs.declared.judgement.Judged.{Judged}
-use Rattle.ck_app.specs.declared.status.Status.{Status}
-use Rattle.blk_check.specs.declared.verdict.Verdict.{Verdict}
-use Rattle.blk_check.specs.Verdict.{at_end}
 use Rattle.asm_core.specs.declared.finding.Rule.{Rule}
 use Rattle.asm_core.specs.declared.finding.Cell.{Cell}
+use Rattle.blk_check.specs.declared.verdict.Verdict.{Verdict}
+use Rattle.ck_report.specs.declared.reports.Judged.{Judged}
+use Rattle.ck_app.specs.Answer.{status_of}
+use Rattle.ck_app.specs.declared.status.Status.{Status}
 
 abbrev judged : ℕ → Verdict → Judged
 judged offset verdict = record { offset = offset; verdict = verdict }
 
-abbrev unsettled : ℕ → Judged
-unsettled offset = judged offset Verdict.NotYet
-
 abbrev broken : ℕ → Judged
-broken offset = judged offset (Verdict.Broken (at_end Rule.W3 Cell.Cc ∷ []))
+broken offset = judged offset (Verdict.Broken (record { rule = Rule.W3; line = 513; cell = Cell.Cc; other = Cell.Nothing } ∷ []))
 
 abbrev undecided : ℕ → Judged
 undecided offset = judged offset (Verdict.Outside (record { kind = MarkKind.Statement; place = offset }))
@@ -30,7 +26,3 @@ of_undecided = refl
 
 of_broken : status_of (undecided 3 ∷ broken 9 ∷ []) ≡ Status.Rejected
 of_broken = refl
-
--- one statement that isn't settled leaves the whole file so
-of_unsettled : status_of (broken 3 ∷ unsettled 9 ∷ []) ≡ Status.NotYet
-of_unsettled = refl

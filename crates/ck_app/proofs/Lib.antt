@@ -1,6 +1,11 @@
+mod CommandLaws
 mod Examples
-mod FrameLaws
+mod FilesLaws
 mod JudgementLaws
 mod PageLaws
 mod PrintLaws
+mod RunLaws
 mod Unique
+mod WordLaws
+pub mod SmallLaws
+pub mod WrittenLaws

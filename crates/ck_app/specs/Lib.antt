@@ -1,8 +1,9 @@
 pub mod Answer
-pub mod Judge
+pub mod Check
+pub mod CommandLine
+pub mod FilesAnswer
 pub mod Judgement
-pub mod Place
-pub mod Report
+pub mod Lines
 pub mod Run
 pub mod Status
 pub mod Words

@@ -1,49 +1,86 @@
 -- What `run` promises of what it prints and how it ends.
-use Rattle.std.specs.Prelude.{◌≡◌, ◌⊎◌, ℕ, ◌≤◌, List, [], Bool, true, false, IsTrue, Option, None, Some, IsSome}
+use Rattle.std.specs.Prelude.{◌≡◌, ◌⊎◌, ℕ, ◌≤◌, List, [], ◌∷◌, ◌++◌, Bool, true, false, IsTrue, Option, None, Some, IsSome}
 use Rattle.asm_core.specs.Lists.{IsMember}
-use Rattle.ck_ports.specs.Faults.{Rose, RisesAt}
-use Rattle.ck_ports.specs.Outside.{Outside}
+use Rattle.ck_ports.specs.Faults.{Rose, RisesAt, CountsAt}
+use Rattle.ck_ports.specs.Outside.{Outside, SameFiles}
 use Rattle.ck_ports.specs.Written.{Written, Writes, WritesPrefix}
+use Rattle.ck_ports.specs.declared.files.Mode.{Mode}
 use Rattle.ck_app.specs.Answer.{Answer, answer, IsReadAnswer}
-use Rattle.ck_app.specs.Judge.{KeepsFrames}
-use Rattle.ck_app.specs.Report.{cannot_be_read_line}
-use Rattle.ck_app.specs.Words.{Command, names_read}
+use Rattle.ck_app.specs.FilesAnswer.{IsFilesAnswer, IsCommandAnswer, ends_run}
+use Rattle.ck_app.specs.Lines.{cannot_be_read_line}
+use Rattle.ck_app.specs.Words.{Command, names_read, usage_line}
 use Rattle.ck_app.specs.declared.status.Status.{Status}
 
 -- both the files and the sink tell what they hold
 abbrev pub Tells : Outside → Written → Type 0
 Tells files out = IsTrue files.tells × IsTrue out.tells
 
--- a file that the words tell to read could not be read: the reading count has risen, last at its name
-pub record HasReadFault (command : Option Command) (old new : Outside) : Type 0 where
+-- no file is changed, all are closed, and the output's count of faults doesn't fall
+pub record KeepsOutside (old new : Outside) (before after : Written) : Type 0 where
+  pub closed : new.mode ≡ Mode.Closed
+  pub files : SameFiles old new
+  pub writing : new.writing ≡ old.writing
+  pub files_tell : new.tells ≡ old.tells
+  pub out_tells : after.tells ≡ before.tells
+  pub faults : before.faults ≤ after.faults
+
+-- one of these files could not be read: the reading count has risen, last at its name
+pub record HasReadFault (names : List (List ℕ)) (old new : Outside) : Type 0 where
   pub name : List ℕ
-  pub is_read : IsMember name (names_read command)
+  pub is_read : IsMember name names
   pub rises : RisesAt old.tells name old.reading new.reading
 
--- the reading count never falls; it and its name are as before, or a file that the words tell to read could not be read
-pub record CountsReads (command : Option Command) (old new : Outside) : Type 0 where
+-- the reading count never falls; it and its name are as before, or one of these files could not be read
+pub record CountsReads (names : List (List ℕ)) (old new : Outside) : Type 0 where
   pub never_falls : old.reading.count ≤ new.reading.count
-  pub either : (new.reading ≡ old.reading) ⊎ HasReadFault command old new
+  pub either : (new.reading ≡ old.reading) ⊎ HasReadFault names old new
 
--- the line that says so, and no other, was printed
+-- the reports of the files before one that could not be read, none of which ends the run, and the line that says so
+pub record IsReadFaultText (strict : Bool) (names : List (List ℕ)) (old new : Outside) (text : List ℕ) : Type 0 where
+  pub firsts : List (List ℕ)
+  pub name : List ℕ
+  pub others : List (List ℕ)
+  pub are : names ≡ firsts ++ name ∷ others
+  pub rises : RisesAt old.tells name old.reading new.reading
+  pub reports : Answer
+  pub is : IsFilesAnswer strict old.file firsts reports
+  pub goes_on : ends_run reports.status ≡ false
+  pub text_is : text ≡ reports.printed ++ cannot_be_read_line name
+
+-- the longer text begins with the other
+abbrev pub Begins : List ℕ → List ℕ → Type 0
+Begins text longer = (rest : List ℕ) × (longer ≡ text ++ rest)
+
+-- the reports of the first of the files, with which the answer for all of them begins
+pub record IsFirstReports (strict : Bool) (names : List (List ℕ)) (old : Outside) (text : List ℕ) : Type 0 where
+  pub firsts : List (List ℕ)
+  pub others : List (List ℕ)
+  pub are : names ≡ firsts ++ others
+  pub reports : Answer
+  pub is : IsFilesAnswer strict old.file firsts reports
+  pub text_is : text ≡ reports.printed
+  pub begins : (whole : Answer) → IsFilesAnswer strict old.file names whole → Begins text whole.printed
+
+-- the texts of which a prefix was printed where a run could not go on
+abbrev pub IsBegun : Option Command → Outside → Outside → List ℕ → Type 0
+IsBegun None old new text = text ≡ usage_line
+IsBegun (Some (Command.Check strict names)) old new text =
+    IsFirstReports strict names old text ⊎ IsReadFaultText strict names old new text
+
+pub record PrintsPart (command : Option Command) (old new : Outside) (before after : Written) : Type 0 where
+  pub text : List ℕ
+  pub is : IsBegun command old new text
+  pub part : WritesPrefix text before after
+
+-- what is printed after a read fault
+abbrev pub IsFaultOf : Option Command → Outside → Outside → List ℕ → Type 0
+IsFaultOf None old new text = ⊥
+IsFaultOf (Some (Command.Check strict names)) old new text = IsReadFaultText strict names old new text
+
 pub record PrintsReadFault (command : Option Command) (old new : Outside) (before after : Written) : Type 0 where
-  pub fault : HasReadFault command old new
-  pub line : Writes (cannot_be_read_line fault.name) before after
-
--- a prefix of that line was printed
-pub record PrintsPartOfReadFault (command : Option Command) (old new : Outside) (before after : Written) : Type 0 where
-  pub fault : HasReadFault command old new
-  pub part : WritesPrefix (cannot_be_read_line fault.name) before after
-
--- a prefix of the answer was printed
-pub record PrintsPartOfAnswer (Is : Answer → Type 0) (before after : Written) : Type 0 where
-  pub whole : Answer
-  pub is : Is whole
-  pub part : WritesPrefix whole.printed before after
-
--- Nothing was printed, or a prefix of the answer or, where a file could not be read, of the line that says so.
-abbrev pub PrintsPart : (Answer → Type 0) → Option Command → Outside → Outside → Written → Written → Type 0
-PrintsPart Is command old new before after = WritesPrefix [] before after ⊎ (PrintsPartOfAnswer Is before after ⊎ PrintsPartOfReadFault command old new before after)
+  pub text : List ℕ
+  pub is : IsFaultOf command old new text
+  pub prints : Writes text before after
 
 -- the whole answer was printed, and the run ends as it says
 pub record GivesAnswer (Is : Answer → Type 0) (status : Status) (before after : Written) : Type 0 where
@@ -53,24 +90,71 @@ pub record GivesAnswer (Is : Answer → Type 0) (status : Status) (before after 
   pub prints : Writes whole.printed before after
 
 -- what was printed, by how the run ended
-abbrev pub Prints : Status → (Answer → Type 0) → Option Command → Outside → Outside → Written → Written → Type 0
-Prints Status.ReadFault Is command old new before after = PrintsReadFault command old new before after
-Prints Status.WriteFault Is command old new before after = PrintsPart Is command old new before after
-Prints Status.Memory Is command old new before after = PrintsPart Is command old new before after
-Prints status Is command old new before after = GivesAnswer Is status before after
+abbrev pub Prints : Status → Option Command → Outside → Outside → Written → Written → Type 0
+Prints Status.ReadFault command old new before after = PrintsReadFault command old new before after
+Prints Status.WriteFault command old new before after = PrintsPart command old new before after
+Prints Status.Memory command old new before after = PrintsPart command old new before after
+Prints status command old new before after = GivesAnswer (IsCommandAnswer command old.file) status before after
 
 -- why a run ended so, whatever is told
 abbrev pub HasCause : Status → Option Command → Outside → Outside → Written → Written → Type 0
 HasCause Status.Usage command old new before after = command ≡ None
-HasCause Status.ReadFault command old new before after = HasReadFault command old new
+HasCause Status.ReadFault command old new before after = HasReadFault (names_read command) old new
 HasCause Status.WriteFault command old new before after = Rose before.faults after.faults
 HasCause Status.Memory command old new before after = Unit {0}
 HasCause status command old new before after = IsSome command
 
--- every statement that is printed `ok` changes only what it declares
-abbrev pub OkIsFramed : Option Command → Outside → Type 0
-OkIsFramed None files = Unit {0}
-OkIsFramed (Some (Command.Check name)) files = (text : List ℕ) → files.file name ≡ Some text → KeepsFrames text
+-- where no count rises, the answer is given, or memory ran out
+abbrev pub IsComplete : Status → Option Command → Outside → Outside → Written → Written → Type 0
+IsComplete status command old new before after =
+    (Rose old.reading.count new.reading.count → ⊥) → (Rose before.faults after.faults → ⊥)
+    → (status ≡ Status.Memory) ⊎ GivesAnswer (IsCommandAnswer command old.file) status before after
+
+-- ---- several files
+
+-- all that a run over these files owes
+pub record RunsFiles (strict : Bool) (names : List (List ℕ)) (status : Status) (old new : Outside)
+    (before after : Written) : Type 0 where
+  pub kept : KeepsOutside old new before after
+  pub reading : CountsReads names old new
+  pub prints : Tells old before → Prints status (Some (Command.Check strict names)) old new before after
+  pub cause : HasCause status (Some (Command.Check strict names)) old new before after
+
+-- ---- one file
+
+-- the texts of which a prefix was printed where the run could not go on: nothing, the file's answer, or that it can't
+-- be read
+abbrev pub IsFileBegun : Bool → List ℕ → Outside → Outside → List ℕ → Type 0
+IsFileBegun strict name old new text =
+    (text ≡ []) ⊎ (((a : Answer) × IsReadAnswer strict name (old.file name) a × (text ≡ a.printed))
+    ⊎ ((text ≡ cannot_be_read_line name) × RisesAt old.tells name old.reading new.reading))
+
+pub record PrintsFilePart (strict : Bool) (name : List ℕ) (old new : Outside) (before after : Written) : Type 0 where
+  pub text : List ℕ
+  pub is : IsFileBegun strict name old new text
+  pub part : WritesPrefix text before after
+
+-- what was printed of a file, by how it ends the run or lets it go on
+abbrev pub PrintsFile : Bool → List ℕ → Status → Outside → Outside → Written → Written → Type 0
+PrintsFile strict name Status.ReadFault old new before after = Writes (cannot_be_read_line name) before after
+PrintsFile strict name Status.WriteFault old new before after = PrintsFilePart strict name old new before after
+PrintsFile strict name Status.Memory old new before after = PrintsFilePart strict name old new before after
+PrintsFile strict name status old new before after =
+    GivesAnswer (IsReadAnswer strict name (old.file name)) status before after
+
+-- why it ends so
+abbrev pub HasFileCause : Status → List ℕ → Outside → Outside → Written → Written → Type 0
+HasFileCause Status.Usage name old new before after = ⊥
+HasFileCause Status.ReadFault name old new before after = RisesAt old.tells name old.reading new.reading
+HasFileCause Status.WriteFault name old new before after = Rose before.faults after.faults
+HasFileCause status name old new before after = Unit {0}
+
+pub record RunsFile (strict : Bool) (name : List ℕ) (status : Status) (old new : Outside)
+    (before after : Written) : Type 0 where
+  pub kept : KeepsOutside old new before after
+  pub reading : CountsAt old.tells name old.reading new.reading
+  pub prints : Tells old before → PrintsFile strict name status old new before after
+  pub cause : HasFileCause status name old new before after
 
 -- a run may end so once something was printed
 abbrev pub is_page_status : Status → Bool
@@ -80,17 +164,20 @@ is_page_status status = true
 
 -- what became of printing a text, after which the run was to end so
 abbrev pub IsPrinted : Status → Status → List ℕ → Written → Written → Type 0
-IsPrinted Status.WriteFault asked text before after = Rose before.faults after.faults × (IsTrue before.tells → WritesPrefix text before after)
+IsPrinted Status.WriteFault asked text before after =
+    Rose before.faults after.faults × (IsTrue before.tells → WritesPrefix text before after)
 IsPrinted Status.Memory asked text before after = IsTrue before.tells → WritesPrefix text before after
 IsPrinted status asked text before after = (status ≡ asked) × (IsTrue before.tells → Writes text before after)
 
 -- the text and the status are those of a file that was read, or tell that it could not be read
-abbrev pub IsPageOf : Status → List ℕ → List ℕ → Outside → Outside → Type 0
-IsPageOf Status.ReadFault text name old new = RisesAt old.tells name old.reading new.reading × (text ≡ cannot_be_read_line name)
-IsPageOf Status.Usage text name old new = ⊥
-IsPageOf Status.WriteFault text name old new = ⊥
-IsPageOf Status.Memory text name old new = ⊥
-IsPageOf status text name old new = IsTrue old.tells → IsReadAnswer name (old.file name) (answer text status)
+abbrev pub IsPageOf : Bool → Status → List ℕ → List ℕ → Outside → Outside → Type 0
+IsPageOf strict Status.ReadFault text name old new =
+    RisesAt old.tells name old.reading new.reading × (text ≡ cannot_be_read_line name)
+IsPageOf strict Status.Usage text name old new = ⊥
+IsPageOf strict Status.WriteFault text name old new = ⊥
+IsPageOf strict Status.Memory text name old new = ⊥
+IsPageOf strict status text name old new =
+    IsTrue old.tells → IsReadAnswer strict name (old.file name) (answer text status)
 
 -- the words have one answer, whatever the files hold
 abbrev pub HasOneAnswer : (Answer → Type 0) → Type 0

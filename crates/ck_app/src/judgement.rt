@@ -7,7 +7,7 @@ ghost use Rattle.asm_core.specs.declared.statement.Body.{Body};
 ghost use Rattle.c_tokens.specs.Cut.{IsOrdered};
 ghost use Rattle.c_exprs.specs.Operands.{operand_of};
 ghost use Rattle.ck_app.specs.Answer.{status_of};
-ghost use Rattle.ck_app.specs.Judgement.{operands_of, interface_in, IsJudgement, IsVerdictBy, AreJudged, is_broken, is_outside, is_open};
+ghost use Rattle.ck_app.specs.Judgement.{operands_of, interface_in, IsJudgement, IsVerdictBy, AreJudged, is_broken, is_outside};
 
 use crate::Status;
 use asm_constraints::interface;
@@ -16,36 +16,27 @@ use blk_check::{Verdict, check};
 use c_exprs::operand_in;
 use c_scopes::Scopes;
 use c_words::Source;
+use ck_report::Judged;
 use std::alloc::Global;
 
-/// Whether flags that change without `cc` break a rule.
-const STRICT: bool = true;
-
-/// A statement with its verdict.
-#[derive(Debug, Drop)]
-pub struct Judged {
-    /// The offset of its keyword.
-    pub offset: u32,
-    pub verdict: Verdict,
-}
-
-/// Each statement with its verdict, in their order.
+/// Each statement with its verdict, in their order. Where `strict`, flags that change without `cc` break a rule.
 #[tactic(auto, using(crate::proofs::JudgementLaws::judged_steps))]
 pub fn judge_statements(
     alloc: Global,
     source: &Source<'_>,
     scopes: &Scopes,
     statements: &[Statement],
+    strict: bool,
 ) -> Result<Items<Judged>, Memory>
     requires ordered { IsOrdered 0 source.now.tokens (length source.now.text) }
     requires parts { All (λ (s : Statement). IsBody s.body) statements.now }
-    ensures { IfOk result (AreJudged source.now scopes.now statements.now) }
+    ensures { IfOk result (AreJudged strict source.now scopes.now statements.now) }
 {
     let mut judged = Items::new(alloc);
     for statement in statements {
         judged.push(Judged {
             offset: statement.span.from,
-            verdict: judge_statement(alloc, source, scopes, statement)?,
+            verdict: judge_statement(alloc, source, scopes, statement, strict)?,
         })?;
     }
     Ok(judged)
@@ -56,13 +47,14 @@ fn judge_statement(
     source: &Source<'_>,
     scopes: &Scopes,
     statement: &Statement,
+    strict: bool,
 ) -> Result<Verdict, Memory>
     requires ordered { IsOrdered 0 source.now.tokens (length source.now.text) }
     requires parts { IsBody statement.now.body }
-    ensures { IfOk result (IsJudgement source.now scopes.now statement.now) }
+    ensures { IfOk result (IsJudgement strict source.now scopes.now statement.now) }
 {
     match &statement.body {
-        Body::Parts(parts) => judge_parts(alloc, source, scopes, statement, parts),
+        Body::Parts(parts) => judge_parts(alloc, source, scopes, statement, parts, strict),
         Body::Outside(mark) => Ok(Verdict::Outside(*mark)),
     }
 }
@@ -75,14 +67,15 @@ fn judge_parts(
     scopes: &Scopes,
     statement: &Statement,
     parts: &Parts,
+    strict: bool,
 ) -> Result<Verdict, Memory>
     requires ordered { IsOrdered 0 source.now.tokens (length source.now.text) }
     requires parts { IsParts parts.now }
     requires body { statement.now.body ≡ Body.Parts parts.now }
-    ensures { IfOk result (IsVerdictBy statement.now (interface_in source.now scopes.now parts.now)) }
+    ensures { IfOk result (IsVerdictBy statement.now (interface_in strict source.now scopes.now parts.now)) }
 {
     let operands = operands(alloc, source, scopes, parts)?;
-    match interface(alloc, parts, operands.as_slice(), STRICT) {
+    match interface(alloc, parts, operands.as_slice(), strict) {
         Ok(interface) => check(alloc, statement, &interface),
         Err(IfaceEnd::Outside(mark)) => Ok(Verdict::Outside(mark)),
         Err(IfaceEnd::Broken(findings)) => Ok(Verdict::Broken(findings)),
@@ -138,9 +131,6 @@ fn append_operands(
 pub fn status(judged: &[Judged]) -> Status
     ensures { result ≡ status_of judged.now }
 {
-    if any_open(judged) {
-        return Status::NotYet;
-    }
     if any_broken(judged) {
         return Status::Rejected;
     }
@@ -164,13 +154,6 @@ fn any_outside(judged: &[Judged]) -> bool
         .any(|statement| is_outside(&statement.verdict))
 }
 
-/// Whether some statement isn't settled.
-fn any_open(judged: &[Judged]) -> bool
-    ensures { result ≡ list_any (λ (j : Judged). is_open j.verdict) judged.now }
-{
-    judged.iter().any(|statement| is_open(&statement.verdict))
-}
-
 fn is_broken(verdict: &Verdict) -> bool
     ensures { result ≡ is_broken verdict.now }
 {
@@ -181,10 +164,4 @@ fn is_outside(verdict: &Verdict) -> bool
     ensures { result ≡ is_outside verdict.now }
 {
     matches!(verdict, Verdict::Outside(_))
-}
-
-fn is_open(verdict: &Verdict) -> bool
-    ensures { result ≡ is_open verdict.now }
-{
-    matches!(verdict, Verdict::NotYet)
 }

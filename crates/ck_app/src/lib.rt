@@ -1,9 +1,10 @@
 //! asmck: what its words ask for, done over files and an output that the caller hands in.
 #![tactic(auto)]
 
+mod command_line;
 mod judge;
 mod judgement;
-mod report;
+mod lines;
 mod runner;
 mod status;
 mod words;

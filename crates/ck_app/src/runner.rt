@@ -3,31 +3,33 @@ ghost use Rattle.std.specs.String.{string_bytes};
 ghost use Rattle.ck_ports.specs.declared.files.Mode.TheVariants.{Closed};
 ghost use Rattle.ck_ports.specs.Faults.{CountsAt};
 ghost use Rattle.ck_ports.specs.Outside.{SameFiles};
-ghost use Rattle.ck_app.specs.Answer.{IsAnswer, IsReadAnswer};
-ghost use Rattle.ck_app.specs.Words.{check_command, command_of};
-ghost use Rattle.ck_app.specs.Run.{Tells, Prints, HasOneAnswer, HasCause, CountsReads, OkIsFramed, IsPageOf, IsPrinted, is_page_status};
+ghost use Rattle.ck_app.specs.FilesAnswer.{IsAnswer};
+ghost use Rattle.ck_app.specs.Words.{AreNames, command_of, names_read};
+ghost use Rattle.ck_app.specs.Run.{Tells, Prints, HasOneAnswer, HasCause, IsComplete, CountsReads, KeepsOutside, RunsFiles, RunsFile, IsPageOf, IsPrinted, is_page_status};
 
 use crate::Status;
+use crate::command_line::{call_words, file_names};
 use crate::judge::{Page, judge};
-use crate::report::{cannot_be_read_line, too_large_line};
-use crate::words::checked_file;
+use crate::lines::{cannot_be_read_line, too_large_line};
+use crate::words::{Check, asked_check};
 use asm_core::Memory;
 use ck_ports::{Files, PortEnd, ReadEnd, Sink, read_all, write_all};
 use std::alloc::Global;
 
 const USAGE: &str =
-    "usage: asmck check FILE.. | patch IN OUT | lift IN OUT | try FILE K SEED STEPS | gen SEED COUNT\n";
+    "usage: asmck MODE [--strict-cc] ARGS: check FILE.. | patch IN OUT | lift IN OUT | try FILE K SEED STEPS | gen SEED COUNT\n";
 
 /// Does what the words ask for, the first of them being the program's name, and prints to `out`.
 ///
-/// `files` is closed again after every answer. A fault of the files or of the output, and want of memory, end the
-/// run at once; what was printed stays.
+/// Files are taken in their order, and each is read whole and closed before anything is printed of it. `files` is
+/// closed again after every answer. A fault of the files or of the output, a file that is too large or no text, and
+/// want of memory end the run at once; what was printed stays.
 pub fn run<F: Files, K: Sink>(alloc: Global, words: &[String], files: &mut F, out: &mut K) -> Status
     requires { (F.outside files.old).mode ≡ Closed }
 
     // What is printed, by how the run ended: the answer, unless something was refused.
     ensures prints { Tells (F.outside files.old) (K.written out.old)
-        → Prints result (IsAnswer (map string_bytes words.now) (F.outside files.old).file) (command_of (map string_bytes words.now))
+        → Prints result (command_of (map string_bytes words.now))
         (F.outside files.old) (F.outside files.new) (K.written out.old) (K.written out.new) }
 
     // There is one answer.
@@ -37,61 +39,103 @@ pub fn run<F: Files, K: Sink>(alloc: Global, words: &[String], files: &mut F, ou
     ensures cause { HasCause result (command_of (map string_bytes words.now))
         (F.outside files.old) (F.outside files.new) (K.written out.old) (K.written out.new) }
 
-    // Each statement that is accepted changes only what it declares.
-    ensures framed { OkIsFramed (command_of (map string_bytes words.now)) (F.outside files.old) }
+    // Where no count rises, the answer is printed, or memory runs out.
+    ensures complete { Tells (F.outside files.old) (K.written out.old)
+        → IsComplete result (command_of (map string_bytes words.now))
+        (F.outside files.old) (F.outside files.new) (K.written out.old) (K.written out.new) }
 
-    // No file is changed, all are closed, and only a file that the words tell to read could not be read.
-    ensures closed { (F.outside files.new).mode ≡ Closed }
-    ensures files { SameFiles (F.outside files.old) (F.outside files.new) }
-    ensures reading { CountsReads (command_of (map string_bytes words.now)) (F.outside files.old) (F.outside files.new) }
-    ensures writing { (F.outside files.new).writing ≡ (F.outside files.old).writing }
-    ensures files_tell { (F.outside files.new).tells ≡ (F.outside files.old).tells }
-    ensures out_tells { (K.written out.new).tells ≡ (K.written out.old).tells }
-    ensures faults { (K.written out.old).faults ≤ (K.written out.new).faults }
+    // No file is changed, all are closed, and only files that the words tell to read could not be read.
+    ensures kept { KeepsOutside (F.outside files.old) (F.outside files.new) (K.written out.old) (K.written out.new) }
+    ensures reading { CountsReads (names_read (command_of (map string_bytes words.now)))
+        (F.outside files.old) (F.outside files.new) }
 {
-    match checked_file(words) {
-        Some(file) => check_file(alloc, file, files, out),
+    match asked_check(words) {
+        Some(check) => check_named(alloc, check, files, out),
         None => print(out, USAGE.as_bytes(), Status::Usage),
     }
 }
 
-fn check_file<F: Files, K: Sink>(alloc: Global, name: &str, files: &mut F, out: &mut K) -> Status
+/// Checks the files that the words name.
+fn check_named<F: Files, K: Sink>(
+    alloc: Global,
+    check: Check<'_>,
+    files: &mut F,
+    out: &mut K,
+) -> Status
+    requires closed { (F.outside files.old).mode ≡ Closed }
+    requires names { AreNames (map string_bytes check.files.now) }
+
+    ensures { RunsFiles check.entry.strict (map string_bytes check.entry.files.now) result
+        (F.outside files.old) (F.outside files.new) (K.written out.old) (K.written out.new) }
+{
+    let Ok(words) = call_words(alloc, check) else {
+        return Status::Memory;
+    };
+    match file_names(alloc, words.as_slice()) {
+        Ok(names) => check_files(alloc, check.strict, names.as_slice(), files, out),
+        Err(Memory) => Status::Memory,
+    }
+}
+
+/// Checks the named files in their order.
+fn check_files<F: Files, K: Sink>(
+    alloc: Global,
+    strict: bool,
+    names: &[&str],
+    files: &mut F,
+    out: &mut K,
+) -> Status
     requires { (F.outside files.old).mode ≡ Closed }
 
-    ensures prints { Tells (F.outside files.old) (K.written out.old)
-        → Prints result (IsReadAnswer name.now ((F.outside files.old).file name.now)) (Some (check_command name.now))
+    ensures { RunsFiles strict (map (λ name. name.now) names.now) result
         (F.outside files.old) (F.outside files.new) (K.written out.old) (K.written out.new) }
-    ensures cause { HasCause result (Some (check_command name.now))
-        (F.outside files.old) (F.outside files.new) (K.written out.old) (K.written out.new) }
-
-    ensures closed { (F.outside files.new).mode ≡ Closed }
-    ensures files { SameFiles (F.outside files.old) (F.outside files.new) }
-    ensures reading { CountsReads (Some (check_command name.now)) (F.outside files.old) (F.outside files.new) }
-    ensures writing { (F.outside files.new).writing ≡ (F.outside files.old).writing }
-    ensures files_tell { (F.outside files.new).tells ≡ (F.outside files.old).tells }
-    ensures out_tells { (K.written out.new).tells ≡ (K.written out.old).tells }
-    ensures faults { (K.written out.old).faults ≤ (K.written out.new).faults }
 {
-    match page_of(alloc, name, files) {
+    let mut status = Status::Done;
+    for name in names {
+        let here = check_file(alloc, strict, name, files, out);
+        if here.ends_run() {
+            return here;
+        }
+        status = status.followed_by(here);
+    }
+    status
+}
+
+/// Prints the page of the named file.
+fn check_file<F: Files, K: Sink>(
+    alloc: Global,
+    strict: bool,
+    name: &str,
+    files: &mut F,
+    out: &mut K,
+) -> Status
+    requires { (F.outside files.old).mode ≡ Closed }
+
+    ensures { RunsFile strict name.now result
+        (F.outside files.old) (F.outside files.new) (K.written out.old) (K.written out.new) }
+{
+    match page_of(alloc, strict, name, files) {
         Ok(page) => print(out, page.text.as_bytes(), page.status),
         Err(Memory) => Status::Memory,
     }
 }
 
 /// The page of the named file, also where it cannot be read.
-fn page_of<F: Files>(alloc: Global, name: &str, files: &mut F) -> Result<Page, Memory>
+fn page_of<F: Files>(alloc: Global, strict: bool, name: &str, files: &mut F) -> Result<Page, Memory>
     requires { (F.outside files.old).mode ≡ Closed }
 
-    ensures page { IfOk result (λ page. IsPageOf page.status (string_bytes page.text) name.now (F.outside files.old) (F.outside files.new)) }
+    ensures page { IfOk result (λ page. IsPageOf strict page.status (string_bytes page.text) name.now
+        (F.outside files.old) (F.outside files.new)) }
 
     ensures closed { (F.outside files.new).mode ≡ Closed }
     ensures files { SameFiles (F.outside files.old) (F.outside files.new) }
-    ensures reading { CountsAt (F.outside files.old).tells name.now (F.outside files.old).reading (F.outside files.new).reading }
+    ensures reading { CountsAt (F.outside files.old).tells name.now
+        (F.outside files.old).reading (F.outside files.new).reading }
     ensures writing { (F.outside files.new).writing ≡ (F.outside files.old).writing }
     ensures tells { (F.outside files.new).tells ≡ (F.outside files.old).tells }
 {
     match read_all(alloc, files, name) {
-        Ok(text) => Ok(judge(alloc, name, text.as_slice())?),
+        Ok(text) => Ok(judge(alloc, name, text.as_slice(), strict)?),
         Err(ReadEnd::Failed) => Ok(Page {
             text: cannot_be_read_line(alloc, name)?,
             status: Status::ReadFault,

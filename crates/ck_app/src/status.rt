@@ -21,12 +21,11 @@ pub enum Status {
     TooLarge,
     /// Memory ran out.
     Memory,
-    /// A file holds what is not judged yet.
-    NotYet,
 }
 
 impl Status {
     ghost use Rattle.ck_app.specs.Status.{code_of};
+    ghost use Rattle.ck_app.specs.FilesAnswer.{ends_run, status_after};
 
     /// The exit status of the process.
     pub fn code(&self) -> u8
@@ -42,7 +41,27 @@ impl Status {
             Status::BadText => 6,
             Status::TooLarge => 7,
             Status::Memory => 8,
-            Status::NotYet => 10,
+        }
+    }
+
+    /// Whether a file that ends so ends the run.
+    pub fn ends_run(self) -> bool
+        ensures { result ≡ ends_run self }
+    {
+        match self {
+            Status::Done | Status::Rejected | Status::Undecided => false,
+            _ => true,
+        }
+    }
+
+    /// How a run ends whose earlier files end like this, and whose later ones like that.
+    pub fn followed_by(self, later: Status) -> Status
+        ensures { result ≡ status_after self later }
+    {
+        match (self, later) {
+            (earlier, Status::Done) => earlier,
+            (Status::Rejected, Status::Undecided) => Status::Rejected,
+            (_, later) => later,
         }
     }
 }

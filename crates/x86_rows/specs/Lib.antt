@@ -1,3 +1,4 @@
 pub mod Control
 pub mod LineRow
 pub mod Purpose
+pub mod Entered

@@ -117,7 +117,7 @@ fn memory_arg(arg: Arg) -> Option<Arg>
     }
 }
 
-fn access_at(store: bool, row: &[MicroOp], s: &Sym, origin: Origin) -> Option<Access>
+pub fn access_at(store: bool, row: &[MicroOp], s: &Sym, origin: Origin) -> Option<Access>
     ensures { result ≡ access_at store row.now s.now origin }
 {
     let to = memory(s, origin)?;

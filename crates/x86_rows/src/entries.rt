@@ -100,7 +100,7 @@ pub fn line_arg(s: &Sym, k: u8) -> Arg
     }
 }
 
-fn source(s: &Sym, origin: Origin) -> Source
+pub fn source(s: &Sym, origin: Origin) -> Source
     ensures { result ≡ source_in s.now origin }
 {
     match origin {
@@ -157,7 +157,7 @@ fn is_control(target: Target) -> bool
     )
 }
 
-fn is_write(target: Target) -> bool
+pub fn is_write(target: Target) -> bool
     ensures { result ≡ is_write target }
 {
     matches!(target, Target::Site(_) | Target::Push | Target::Pop)
@@ -165,7 +165,7 @@ fn is_write(target: Target) -> bool
 
 /// Which values of a row are looked at.
 #[derive(Clone, Copy)]
-enum Purpose {
+pub enum Purpose {
     Control,
     Use,
 }
@@ -180,7 +180,7 @@ fn serves(purpose: Purpose, target: Target) -> bool
 }
 
 /// What the values that serve the purpose name together.
-fn names_where(purpose: Purpose, row: &[MicroOp], facts: &[Fact]) -> u64
+pub fn names_where(purpose: Purpose, row: &[MicroOp], facts: &[Fact]) -> u64
     ensures { result ≡ names_where (targets_of purpose) row.now 0 facts.now 0 }
 {
     let mut names = 0;
@@ -249,7 +249,7 @@ fn set_to(x: Input) -> By
 }
 
 /// How the value of a micro-operation comes about.
-fn by(s: &Sym, op: &MicroOp) -> By
+pub fn by(s: &Sym, op: &MicroOp) -> By
     ensures { result ≡ by_of s.now op.now.function op.now.x }
 {
     match op.function {
@@ -287,7 +287,7 @@ fn write_to_site(s: &Sym, by: By, site: Site) -> Write
     }
 }
 
-fn write(s: &Sym, op: &MicroOp) -> Option<Write>
+pub fn write(s: &Sym, op: &MicroOp) -> Option<Write>
     ensures { result ≡ write_of s.now op.now }
 {
     let by = by(s, op);

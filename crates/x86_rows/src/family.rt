@@ -1,12 +1,18 @@
-ghost use Rattle.std.specs.Prelude.{◌≡◌, ◌≤◌, Bool, length, IsTrue};
+ghost use Rattle.std.specs.Prelude.{◌≡◌, ◌≤◌, All, Bool, IfOk, length, IsTrue};
+ghost use Rattle.asm_core.specs.Rows.{entry_row};
 ghost use Rattle.asm_core.specs.Table.{row_of};
+ghost use Rattle.x86_rows.specs.Entered.{AreEntries, IsNarrow};
 ghost use Rattle.asm_core.specs.declared.inst.Op.{Op};
 
 use crate::accesses::access;
 use crate::entries::{named, reads, uses, writes};
+use crate::line_entries::{LineEntries, row_entries};
 use crate::line_row::{arg_count, entry, prefixed};
 use crate::stepper::{Line, step};
-use asm_core::{Access, Inst, Machine, MicroOp, Op, Row, Source, StepEnd, Sym, Width, Write};
+use asm_core::{
+    Access, Inst, Machine, Memory, MicroOp, Op, Row, Source, StepEnd, Sym, Width, Write,
+};
+use std::alloc::Global;
 
 /// A family of instructions: its part of the table.
 pub trait Family {
@@ -24,6 +30,22 @@ pub trait Family {
 #[derive(Clone, Copy)]
 pub struct FamilyRow<F> {
     pub family: F,
+}
+
+impl<F: Family> FamilyRow<F> {
+    /// All that a line writes, names, uses and accesses.
+    ///
+    /// # Errors
+    /// Want of memory.
+    pub fn entries(&self, alloc: Global, s: &Sym) -> Result<LineEntries, Memory>
+        requires { IsTrue (F.has s.now.op) }
+        ensures are { IfOk result (AreEntries (entry_row s.now) s.now) }
+        ensures few { IfOk result (λ e. length e.writes ≤ 22) }
+        ensures narrow { IfOk result (λ e. All IsNarrow e.writes) }
+    {
+        let row = entry(s, F::row(s.op, s.width, s.args.as_slice().len()));
+        row_entries(alloc, row.as_slice(), s)
+    }
 }
 
 impl<F: Family> Row for FamilyRow<F> {

@@ -3,4 +3,4 @@ use Rattle.ck_app.specs.Judgement.{AreJudged}
 use Rattle.ck_app.proofs.judgement.judge_statements.Given as goal
 
 abbrev pub invariant-loop-statement : goal.invariant-loop-statement
-invariant-loop-statement l = AreJudged l.source l.scopes (take l.statement-index l.statements) l.judged
+invariant-loop-statement l = AreJudged l.strict l.source l.scopes (take l.statement-index l.statements) l.judged

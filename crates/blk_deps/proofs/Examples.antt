@@ -1,0 +1,4 @@
+mod Fitting
+mod Ground
+mod Line
+mod Rules

@@ -1,0 +1,7 @@
+use Rattle.std.proofs.Common.{◌≡◌, ◌+◌, ◌++◌}
+use Rattle.std.specs.List.{range_with_len, flat_map}
+use Rattle.blk_deps.specs.Line.{put_word}
+use Rattle.blk_deps.proofs.line.instance.Instance.push_pushed.Given as goal
+
+abbrev pub invariant-loop-n : goal.invariant-loop-n
+invariant-loop-n l = l.puts ≡ l.fn.puts ++ flat_map (λ n. put_word l.self.depth n (l.hand + n)) (range_with_len 0 l.n)

@@ -1,0 +1,6 @@
+use Rattle.std.proofs.Common.{◌≡◌, ℕ, ◌/◌, nat_lt, if◌then◌else◌}
+use Rattle.dataflow.specs.Bits.{facts_in}
+use Rattle.blk_deps.proofs.words.fill_first.Given as goal
+
+abbrev pub invariant-loop-i : goal.invariant-loop-i
+invariant-loop-i l = (n : ℕ) → facts_in l.words n ≡ (if nat_lt (n / 64) l.i then l.on else facts_in l.initial.words n)

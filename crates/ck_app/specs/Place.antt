@@ -1,9 +1,0 @@
--- Places as code holds them.
-use Rattle.std.specs.Prelude.{◌≡◌, ℕ, List}
-use Rattle.ck_app.specs.declared.report.Place.{Place}
-
--- a line and a column of the named file
-pub record IsPlaceOf (p : Place) (file : List ℕ) (place : ℕ × ℕ) : Type 0 where
-  pub name : p.name.now ≡ file
-  pub line : p.line ≡ place.0
-  pub column : p.column ≡ place.1

@@ -1,0 +1,82 @@
+//! The words of a call, taken apart by clap.
+
+ghost use Rattle.std.specs.Prelude.{◌≡◌, ◌∷◌, [], List, ℕ, Some, map, drop, codes, option_map, IfOk};
+ghost use Rattle.std.specs.String.{string_bytes};
+ghost use Rattle.clap.specs.Words.{app_of, subcommand_rows_of, HasMatchesOf};
+ghost use Rattle.ck_app.specs.CommandLine.{asmck_app, file_row, IsCheckCall};
+
+use crate::words::Check;
+use asm_core::Memory;
+use clap::error::ErrorKind;
+use clap::{Arg, ArgMatches, Command, Error};
+use std::alloc::{AllocError, Global};
+
+/// The words of a call that checks these files, without the word that asks for the strict rule.
+pub fn call_words<'a>(alloc: Global, check: Check<'a>) -> Result<Vec<&'a str>, Memory>
+    ensures { IfOk result (λ words. map (λ word. word.now) words.items
+        ≡ codes "asmck" ∷ codes "check" ∷ map string_bytes check.entry.files.now) }
+{
+    let mut words = Vec::new(alloc);
+    words.push("asmck")?;
+    words.push("check")?;
+    for file in check.files {
+        words.push(file.as_str())?;
+    }
+    Ok(words)
+}
+
+/// The names of the files in the words of such a call.
+pub fn file_names<'a>(alloc: Global, words: &'a [&'a str]) -> Result<Vec<&'a str>, Memory>
+    requires { IsCheckCall (map (λ word. word.now) words.now) }
+    ensures { IfOk result (λ names. map (λ name. name.now) names.items ≡ drop 2 (map (λ word. word.now) words.now)) }
+{
+    match parsed(alloc, words) {
+        Ok(matches) => match names_in(&matches) {
+            Some(names) => copied(alloc, names),
+            None => by_place(alloc, words),
+        },
+        Err(error) => match error.kind() {
+            ErrorKind::OutOfMemory => Err(Memory),
+            _ => by_place(alloc, words),
+        },
+    }
+}
+
+/// The names as they stand behind the program's name and the mode.
+fn by_place<'a>(alloc: Global, words: &[&'a str]) -> Result<Vec<&'a str>, Memory>
+    requires { IsCheckCall (map (λ word. word.now) words.now) }
+    ensures { IfOk result (λ names. map (λ name. name.now) names.items ≡ drop 2 (map (λ word. word.now) words.now)) }
+{
+    copied(alloc, &words[2..])
+}
+
+fn copied<'a>(alloc: Global, words: &[&'a str]) -> Result<Vec<&'a str>, Memory>
+    ensures { IfOk result (λ copy. copy.items ≡ words.now) }
+{
+    Ok(words.to_vec(alloc)?)
+}
+
+/// What clap finds in the words.
+fn parsed<'a>(alloc: Global, words: &'a [&'a str]) -> Result<ArgMatches<'a>, Error>
+    ensures { IfOk result (HasMatchesOf asmck_app (map (λ word. word.now) words.now)) }
+{
+    asmck(alloc)?.try_get_matches_from(words)
+}
+
+/// The command line of asmck, but for the word that asks for the strict rule.
+fn asmck<'a>(alloc: Global) -> Result<Command<'a>, AllocError>
+    ensures { IfOk result (λ command. app_of command ≡ asmck_app) }
+{
+    let file = Arg::new(alloc, "FILE").num_args(1..).required(true);
+    let check = Command::new(alloc, "check").arg(file)?;
+    Command::new(alloc, "asmck").subcommand(check)
+}
+
+/// The names of the files to check among what clap found.
+fn names_in<'m, 'a>(matches: &'m ArgMatches<'a>) -> Option<&'m [&'a str]>
+    ensures { (names : List (List ℕ)) → subcommand_rows_of matches.now ≡ Some (codes "check", file_row names ∷ [])
+        → option_map (λ found. map (λ name. name.now) found.now) result ≡ Some names }
+{
+    let (_, found) = matches.subcommand()?;
+    found.get_strs("FILE")
+}

@@ -1,0 +1,9 @@
+pub mod Cause
+pub mod Causes
+pub mod Paths
+pub mod Bits
+pub mod Joining
+pub mod Working
+pub mod Solving
+pub mod Walk
+pub mod WalkLaw
