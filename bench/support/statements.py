@@ -29,6 +29,11 @@ def function(template, outputs, inputs, clobbers):
     return f"int v[{OPERANDS}];\nint f({names}){{int y=0;__asm__({parts});return y;}}\n"
 
 
+def label(number):
+    """A label of that number in a template. No digit may stand before `%=`."""
+    return f".L{chr(ord('a') + number // 26)}{chr(ord('a') + number % 26)}%="
+
+
 def loop():
     """A block of 512 instructions that is one loop."""
     return function(["1: decl %0", *["decl %0"] * (INSTRUCTIONS - 2), "jnz 1b"], ['"+r"(x0)'], [], ["cc"])
@@ -65,7 +70,7 @@ class Block:
         """One instruction, which reads or writes an operand at most."""
         if self.random.random() < self.jumping:
             self.jumps += 1
-            return f"{self.random.choice(('jz', 'jc', 'jl', 'jg', 'jmp'))} .Lb{self.random.randrange(self.labels)}%="
+            return f"{self.random.choice(('jz', 'jc', 'jl', 'jg', 'jmp'))} {label(self.random.randrange(self.labels))}"
         register, other = self.random.sample(("%%eax", "%%ecx", "%%edx"), 2)
         forms = [f"movl {register},{other}", f"addl {register},{other}", f"incl {register}", f"movl $1,{register}"]
         count = self.either + self.memory
@@ -79,7 +84,7 @@ class Block:
         lines = [self.instruction() for _ in range(self.instructions)]
         for number in range(self.labels):
             at = self.random.randrange(len(lines))
-            lines[at] = f".Lb{number}%=: {lines[at]}"
+            lines[at] = f"{label(number)}: {lines[at]}"
         return function(lines, *self.operands(), ["eax", "ecx", "edx", "cc"])
 
     def __str__(self):
