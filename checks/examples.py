@@ -2,9 +2,10 @@
 """Compares what asmck prints of each file in examples/ and its folders, and its status, with the .expected beside it.
 
 The last line of NAME.expected is `status N`; the lines before are what `asmck check` prints of NAME.c. What it prints
-with the word `--strict-cc` stands in NAME.strict.expected, where that is another answer; while the usage line doesn't
-have the word, this is told and not compared. The check takes the proved program where that is built, else the build of
-`rt try` without a proof, in a minute. Both sizes are the same. Status 0 where all agree, else 1.
+with the word `--strict-cc` stands in NAME.strict.expected, where there is such a file; while the usage line doesn't
+have the word, this is told and not compared. Each example of a rule has to stand in docs/RULES.md as it is here, with
+the lines that are printed of it. The check takes the proved program where that is built, else the build of `rt try`
+without a proof, in a minute. Both sizes are the same. Status 0 where all agree, else 1.
 """
 import pathlib
 import shutil
@@ -16,6 +17,7 @@ from support.check import arguments
 from support.trial import ROOT
 
 EXAMPLES = ROOT / "examples"
+RULES = ROOT / "docs/RULES.md"
 STRICT = "--strict-cc"
 
 
@@ -46,6 +48,16 @@ def answers_of(examples, *words):
         return answers(pathlib.Path(name), *words)
 
 
+def not_shown(example):
+    """What docs/RULES.md lacks of the example of a rule: its broken statements, or what is printed of them."""
+    text = RULES.read_text()
+    endings = [it for it in (".strict.expected", ".expected") if example.with_suffix(it).exists()]
+    lines = [line for line in example.with_suffix(endings[0]).read_text().splitlines() if ": broken " in line]
+    functions = example.read_text().strip().split("\n\n")
+    broken = [it for it in functions if "_mended(" not in it]
+    return [it for it in [*broken, *lines] if it not in text] or ([] if lines else ["a broken rule"])
+
+
 def main():
     arguments(__doc__)
     examples = sorted(EXAMPLES.rglob("*.c"))
@@ -58,7 +70,11 @@ def main():
     else:
         others += wrong(strict, found, ".strict.expected")
         print(f"{len(strict)} compared with {STRICT}")
-    return 1 if others or not examples or not strict else 0
+    rules = sorted(EXAMPLES.glob("rules/*.c"))
+    lacking = {example.name: missing for example in rules if (missing := not_shown(example))}
+    for name, missing in lacking.items():
+        print(f"docs/RULES.md lacks of {name}:", *missing, sep="\n")
+    return 1 if others or lacking or not rules or not strict else 0
 
 
 if __name__ == "__main__":

@@ -1,7 +1,7 @@
 char product_is_zero(int x, int y)
 {
     char c;
-    __asm__("imull %2,%1; sete %0" : "=q"(c), "+r"(x) : "r"(y));
+    __asm__("imull %2,%1; sete %0" : "=q"(c), "+r"(x) : "r"(y) : "cc");
     return c;
 }
 
@@ -15,7 +15,7 @@ int widened(char c)
 char product_is_zero_mended(int x, int y)
 {
     char c;
-    __asm__("imull %2,%1; testl %1,%1; sete %0" : "=q"(c), "+r"(x) : "r"(y));
+    __asm__("imull %2,%1; testl %1,%1; sete %0" : "=q"(c), "+r"(x) : "r"(y) : "cc");
     return c;
 }
 

@@ -1,13 +1,13 @@
 int zero(void)
 {
     int y;
-    __asm__("xorl %%ecx,%%ecx; movl %%ecx,%0" : "=r"(y));
+    __asm__("xorl %%ecx,%%ecx; movl %%ecx,%0" : "=r"(y) : : "cc");
     return y;
 }
 
 int zero_mended(void)
 {
     int y;
-    __asm__("xorl %%ecx,%%ecx; movl %%ecx,%0" : "=r"(y) : : "ecx");
+    __asm__("xorl %%ecx,%%ecx; movl %%ecx,%0" : "=r"(y) : : "ecx", "cc");
     return y;
 }
