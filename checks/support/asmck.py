@@ -5,6 +5,8 @@ from support.trial import ROOT, tried
 
 CRATE = ROOT / "crates/asmck"
 PROGRAM = CRATE / "out/asmck"
+# The status of words that are of no known form.
+USAGE = 2
 
 
 def is_proved():
@@ -16,17 +18,23 @@ def is_proved():
     return all(source.stat().st_mtime <= built for source in sources)
 
 
-def answers(folder):
-    """The lines that `asmck check NAME` prints of each file in the folder, and its status, by the file's name."""
+def answers(folder, *words):
+    """The lines that `asmck check WORDS NAME` prints of each file in the folder, and its status, by the file's name."""
     if not is_proved():
-        found = tried(CRATE, folder, "check", "{}")
+        found = tried(CRATE, folder, "check", *words, "{}")
         return {name: ([named(line, name) for line in lines], status) for name, (lines, status) in found.items()}
-    return {file.name: answer(file) for file in sorted(folder.iterdir())}
+    return {file.name: answer(file, *words) for file in sorted(folder.iterdir())}
 
 
-def answer(file):
-    done = subprocess.run([PROGRAM, "check", file.name], cwd=file.parent, text=True, capture_output=True)
+def answer(file, *words):
+    done = subprocess.run([PROGRAM, "check", *words, file.name], cwd=file.parent, text=True, capture_output=True)
     return done.stdout.splitlines(), done.returncode
+
+
+def lacks_word(found, word):
+    """Whether all answers are the usage line, and it doesn't have the word."""
+    usages = [status == USAGE and word not in "".join(lines) for lines, status in found.values()]
+    return bool(usages) and all(usages)
 
 
 def named(line, name):

@@ -5,6 +5,8 @@ import shutil
 import subprocess
 
 ROOT = pathlib.Path(__file__).resolve().parent.parent.parent
+# What a program may take before it is ended: unproved, it is some hundred times slower.
+SECONDS = "900"
 
 
 def crate_in(folder, name, crates, files):
@@ -29,7 +31,8 @@ def tried(crate, cases, *words):
 
     A word `{}` stands for the file, which the program knows by the name `case`.
     """
-    done = subprocess.run(["rt", "try", "--cases", str(cases), "--", *words], cwd=crate, text=True, capture_output=True)
+    command = ["rt", "try", "--seconds", SECONDS, "--cases", str(cases), "--", *words]
+    done = subprocess.run(command, cwd=crate, text=True, capture_output=True)
     found, lines = {}, None
     for line in done.stdout.splitlines():
         if line.startswith("== "):

@@ -1,1 +1,0 @@
-int f(int x,int y){__asm__("":"=a"(y):"b"(x),"b"(x));return y;}
