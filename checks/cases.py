@@ -3,8 +3,7 @@
 
 checks/cases/statements.c has 2,988 asm statements, each in a function of its own and each function in one line: some
 600 kinds of verdict. check.expected is what `asmck check statements.c` has to print of them, and check-strict.expected
-what it has to print with the word `--strict-cc`; both come from a second, independent reading of the rules. The second
-is compared where the usage line has that word. The check takes the proved program where that is built, else the build
+what it has to print with the word `--strict-cc`; both come from a second, independent reading of the rules. The check takes the proved program where that is built, else the build
 of `rt try` without a proof. The small size takes each tenth statement, in which each rule is broken and each kind of
 mark occurs that occurs in all. Status 0 where all agree, else 1.
 """
@@ -12,7 +11,7 @@ import pathlib
 import sys
 import tempfile
 
-from support.asmck import answers, lacks_word
+from support.asmck import answers
 from support.check import arguments
 from support.trial import ROOT
 
@@ -64,14 +63,9 @@ def main():
     taken = set(range(10, count + 1, 10) if size == "small" else range(1, count + 1))
     others = differing(told([], taken), wanted("check.expected", taken))
     print(f"{len(taken)} statements compared, {others} differ")
-    found = told([STRICT], taken)
-    if lacks_word(found, STRICT):
-        print(f"with {STRICT} none was compared: the usage line doesn't have the word")
-    else:
-        strict = differing(found, wanted("check-strict.expected", taken))
-        print(f"with {STRICT} {strict} differ")
-        others += strict
-    return 1 if others else 0
+    strict = differing(told([STRICT], taken), wanted("check-strict.expected", taken))
+    print(f"with {STRICT} {strict} differ")
+    return 1 if others or strict else 0
 
 
 sys.exit(main())

@@ -2,17 +2,17 @@
 """Compares what asmck prints of each file in examples/ and its folders, and its status, with the .expected beside it.
 
 The last line of NAME.expected is `status N`; the lines before are what `asmck check` prints of NAME.c. What it prints
-with the word `--strict-cc` stands in NAME.strict.expected, where there is such a file; while the usage line doesn't
-have the word, this is told and not compared. Each example of a rule has to stand in docs/RULES.md as it is here, with
-the lines that are printed of it. The check takes the proved program where that is built, else the build of `rt try`
-without a proof, in a minute. Both sizes are the same. Status 0 where all agree, else 1.
+with the word `--strict-cc` stands in NAME.strict.expected, where there is such a file. Each example of a rule has to
+stand in docs/RULES.md as it is here, with the lines that are printed of it. The check takes the proved program where
+that is built, else the build of `rt try` without a proof, in a minute. Both sizes are the same. Status 0 where all
+agree, else 1.
 """
 import pathlib
 import shutil
 import sys
 import tempfile
 
-from support.asmck import answers, lacks_word
+from support.asmck import answers
 from support.check import arguments
 from support.trial import ROOT
 
@@ -64,12 +64,8 @@ def main():
     others = wrong(examples, answers_of(examples), ".expected")
     print(f"{len(examples) - others} examples as expected, {others} not")
     strict = [example for example in examples if example.with_suffix(".strict.expected").exists()]
-    found = answers_of(strict, STRICT)
-    if lacks_word(found, STRICT):
-        print(f"{len(strict)} with {STRICT} are not compared: the usage line doesn't have the word")
-    else:
-        others += wrong(strict, found, ".strict.expected")
-        print(f"{len(strict)} compared with {STRICT}")
+    others += wrong(strict, answers_of(strict, STRICT), ".strict.expected")
+    print(f"{len(strict)} compared with {STRICT}")
     rules = sorted(EXAMPLES.glob("rules/*.c"))
     lacking = {example.name: missing for example in rules if (missing := not_shown(example))}
     for name, missing in lacking.items():

@@ -5,8 +5,6 @@ from support.trial import ROOT, tried
 
 CRATE = ROOT / "crates/asmck"
 PROGRAM = CRATE / "out/asmck"
-# The status of words that are of no known form.
-USAGE = 2
 
 
 def is_proved():
@@ -29,12 +27,6 @@ def answers(folder, *words):
 def answer(file, *words):
     done = subprocess.run([PROGRAM, "check", *words, file.name], cwd=file.parent, text=True, capture_output=True)
     return done.stdout.splitlines(), done.returncode
-
-
-def lacks_word(found, word):
-    """Whether all answers are the usage line, and it doesn't have the word."""
-    usages = [status == USAGE and word not in "".join(lines) for lines, status in found.values()]
-    return bool(usages) and all(usages)
 
 
 def named(line, name):
