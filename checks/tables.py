@@ -14,7 +14,7 @@ from support.check import arguments
 from support.trial import ROOT, crate_in
 
 TABLES = ROOT / "checks/tables"
-ASM = "asm_constraints asm_core asm_places asm_statement asm_template att_reader bitflags x86_table"
+ASM = "asm_constraints asm_core asm_places asm_statement asm_template att_reader bitflags register_search x86_table"
 C = "c_decls c_exprs c_literals c_scopes c_tokens c_types c_values"
 
 

@@ -14,6 +14,3 @@ mod symbol_kind;
 
 pub use operand::names;
 pub use statement::interface;
-
-#[cfg(test)]
-mod tests;

@@ -18,6 +18,3 @@ pub use expand_end::ExpandEnd;
 pub use expansion::{Expanded, expand, piece_codes};
 pub use scan_end::ScanEnd;
 pub use template::{Scanned, pieces, scan};
-
-#[cfg(test)]
-mod tests;

@@ -12,6 +12,3 @@ mod table;
 pub use class::{CHOICES, Class, Group, PAIR};
 pub use search::has_assignment;
 pub use settling::settle;
-
-#[cfg(test)]
-mod tests;

@@ -6,6 +6,3 @@ mod stepping;
 
 pub use every::{AnyRow, Every};
 pub use stepping::step;
-
-#[cfg(test)]
-mod tests;
