@@ -17,6 +17,7 @@ use Rattle.asm_core.proofs.ReadingLaws.BodiesApart.{body_apart}
 use Rattle.asm_core.proofs.ReadingLaws.BodiesRead.{body_read, still_read, reading_as, reading_at, instructions-kept, statements-kept, no_label}
 use Rattle.asm_core.proofs.ReadingLaws.CutKept.{raw_map, labels_from-kept, instruction_count-kept}
 use Rattle.asm_core.proofs.ReadingLaws.HolesNamed.{line_read_named}
+use Rattle.asm_core.proofs.ReadingLaws.InstsRead.{insts_are}
 use Rattle.asm_core.proofs.ReadingLaws.LinesPlaced.{reading-placed}
 use Rattle.asm_core.proofs.ReadingLaws.NamesThere.{names_there}
 use Rattle.asm_core.proofs.ReadingLaws.PiecesApart.{are_apart}
@@ -104,15 +105,11 @@ module _ (rows : List NameRow) (i : Interface) (s : Shape) (is : IsInterface i) 
     read_as n (Raw.Live before from body) e =
         body_exact (labels_from 0 raws) n (instruction_count raws) (place_from (atoms from)) before body (body_apart piece_code (uncommented piece_code ps) n before from body apart e)
 
-    insts_are : (b : Bool) (lines : Lines) → cond b (Err LinesEnd.TooMany) (Ok (lines_with elements (readings_of rows elements))) ≡ Ok lines → map (inst_of_reading (instruction_count elements)) (readings_of rows elements) ≡ lines.insts
-    insts_are true lines e = cc
-    insts_are false lines e = let same : lines_with elements (readings_of rows elements) ≡ lines = cc in ap (λ (l : Lines). l.insts) same
-
     reads_exactly : (lines : Lines) → lines_under rows i s ps ≡ Ok lines → ReadsExactly rows i s ps lines
     reads_exactly lines read = record {
       each = λ n raw e. (
-          let told : cond (nat_lt 512 (instruction_count elements)) (Err LinesEnd.TooMany) (Ok (lines_with elements (readings_of rows elements))) ≡ Ok lines = rw (statements-kept i s ps) at read in
-          let insts = insts_are (nat_lt 512 (instruction_count elements)) lines told in
+          let told = insts_are rows i s ps lines read in
+          let insts : map (inst_of_reading (instruction_count elements)) (readings_of rows elements) ≡ lines.insts = rw (statements-kept i s ps) at told in
           subst (IsReadAs rows i s raws n raw) (sym (insts_at n raw e) ∙ ap (λ l. optional_at l n) insts) (read_as n raw e)
           );
     }

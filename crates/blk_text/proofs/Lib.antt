@@ -1,0 +1,3 @@
+pub mod BytesNamed
+pub mod CodeThere
+pub mod GraphCode
