@@ -1,11 +1,10 @@
 -- Under a placement by letters each operand of a line is placed.
-use Rattle.std.proofs.Common.{◌≡◌, ℕ, zero, suc, ◌+◌, ◌==◌, ◌&&◌, ◌≤◌, nat_lt, not, ℤ, pos, List, [], ◌∷◌, length, map, take, drop, Bool, true, false, cond, Option, None, Some, refl, ap, sym, subst, ◌∙◌, slice_get, slice_index, arith}
-use Rattle.std.specs.List.{prefix_len, list_all}
+use Rattle.std.proofs.Common.{◌≡◌, ℕ, zero, suc, ◌+◌, ◌==◌, ◌&&◌, ◌≤◌, nat_lt, ℤ, pos, List, [], ◌∷◌, length, map, take, drop, Bool, true, false, cond, Option, None, Some, refl, subst, slice_index, arith}
+use Rattle.std.specs.List.{list_all}
 use Rattle.std.specs.Option.{option_map}
-use Rattle.asm_core.specs.Placement.{spot_of}
-use Rattle.asm_core.specs.Reading.Cut.{is_blank, begun}
+use Rattle.asm_core.specs.Reading.Cut.{begun}
 use Rattle.asm_core.specs.Reading.Written.{register_named, number_of}
-use Rattle.asm_core.specs.Reading.Operands.{atom_code, content_len, ended, trimmed, hole_of, number_disp, disp_or, disp_in, before, address, base_in, index_in, place_in, between, enclosed, front_disp, address_at, address_of, is_cl, register_operand, label_or, written_operand, hole_operand, operand_of, comma_outside, operands_in, operands_of, all_some}
+use Rattle.asm_core.specs.Reading.Operands.{atom_code, ended, trimmed, hole_of, whole_register, register_place, place_or, indexed, scale_in, number_disp, disp_or, disp_in, before, address, base_in, index_in, place_in, between, enclosed, front_disp, address_at, address_of, is_cl, register_operand, label_or, written_operand, hole_operand, operand_of, comma_outside, operands_in, operands_of, all_some}
 use Rattle.asm_core.specs.Reading.Placed.{placed_disp}
 use Rattle.asm_core.proofs.ReadingLaws.WrittenCodes.{cond_some}
 use Rattle.asm_core.specs.declared.reg.Reg.{Reg}
@@ -39,22 +38,32 @@ is_memory (Spot.Register r) = false
 is_memory Spot.Pair = false
 is_memory (Spot.Number n) = false
 
--- Places of registers that a test passes, besides registers themselves.
-module _ (p : Placement) (is_place_fit : Place → Bool) (registers : (r : Reg) → is_place_fit (Place.Reg r) ≡ true) where
+-- Places of registers that a test passes, besides registers themselves, and memory operands that one passes.
+module _ (p : Placement) (is_place_fit : Place → Bool) (registers : (r : Reg) → is_place_fit (Place.Reg r) ≡ true)
+    (is_memory_fit : ℕ → Bool) where
   -- the placement says where it is
   abbrev pub is_leaf_placed : Leaf → Bool
   is_leaf_placed Leaf.Nothing = true
   is_leaf_placed (Leaf.Register place slice count) = is_place_fit place
   is_leaf_placed (Leaf.Immediate d) = is_number (placed_disp p d)
   is_leaf_placed (Leaf.Bare d known) = is_number (placed_disp p d)
-  is_leaf_placed (Leaf.Memory k form) = is_memory (spot_of p k)
+  is_leaf_placed (Leaf.Memory k form) = is_memory_fit k
   is_leaf_placed Leaf.Nameless = true
+
+  abbrev pub is_base_fit : Option Place → Bool
+  is_base_fit None = true
+  is_base_fit (Some place) = is_place_fit place
+
+  abbrev pub is_index_fit : Option (Place × ℕ) → Bool
+  is_index_fit None = true
+  is_index_fit (Some x) = is_place_fit x.0
 
   abbrev pub is_operand_placed : LineOperand → Bool
   is_operand_placed (LineOperand.Register place slice count) = is_place_fit place
   is_operand_placed (LineOperand.Immediate d) = is_number (placed_disp p d)
-  is_operand_placed (LineOperand.Memory k form) = is_memory (spot_of p k)
-  is_operand_placed (LineOperand.Address d base index) = is_number (placed_disp p d)
+  is_operand_placed (LineOperand.Memory k form) = is_memory_fit k
+  is_operand_placed (LineOperand.Address d base index) =
+      is_number (placed_disp p d) && (is_base_fit base && is_index_fit index)
   is_operand_placed (LineOperand.Label goal) = true
 
   abbrev pub ArePlaced : List Atom → Type 0
@@ -117,37 +126,123 @@ module _ (p : Placement) (is_place_fit : Place → Bool) (registers : (r : Reg) 
       (λ c f. let same : Disp.Number (pos 0) ≡ d = cc in subst (λ x. is_number (placed_disp p x) ≡ true) same refl)
       (λ c f. disp_placed xs h d f) e
 
+  -- ---- places
+
+  -- a place that is there passes the test
+  abbrev IsPlaceFit : Option Place → Type 0
+  IsPlaceFit o = (place : Place) → o ≡ Some place → is_place_fit place ≡ true
+
+  whole_fit : (r : Option (Reg × Slice)) → IsPlaceFit (whole_register r)
+  whole_fit None place e = cc
+  whole_fit (Some (r, Slice.All)) place e =
+      let same : Place.Reg r ≡ place = cc in subst (λ x. is_place_fit x ≡ true) same (registers r)
+  whole_fit (Some (r, Slice.Low8)) place e = cc
+  whole_fit (Some (r, Slice.High8)) place e = cc
+  whole_fit (Some (r, Slice.Low16)) place e = cc
+
+  named_fit : (text : List ℕ) → IsPlaceFit (register_place text)
+  named_fit text place e =
+      cond_some (slice_index text 0 == 37) (whole_register (register_named (drop 1 text))) None place
+      (is_place_fit place ≡ true)
+      (λ c f. whole_fit (register_named (drop 1 text)) place f) (λ c f. cc) e
+
+  place_fit : (leaf : Leaf) (other : Option Place) → is_leaf_placed leaf ≡ true → IsPlaceFit other
+      → IsPlaceFit (place_or leaf other)
+  place_fit (Leaf.Register q Slice.All count) other h named place e =
+      let same : q ≡ place = cc in subst (λ x. is_place_fit x ≡ true) same h
+  place_fit (Leaf.Register q Slice.Low8 count) other h named place e = named place e
+  place_fit (Leaf.Register q Slice.High8 count) other h named place e = named place e
+  place_fit (Leaf.Register q Slice.Low16 count) other h named place e = named place e
+  place_fit Leaf.Nothing other h named place e = named place e
+  place_fit (Leaf.Immediate d) other h named place e = named place e
+  place_fit (Leaf.Bare d known) other h named place e = named place e
+  place_fit (Leaf.Memory k form) other h named place e = named place e
+  place_fit Leaf.Nameless other h named place e = named place e
+
+  in_place : (xs : List Atom) → ArePlaced xs → IsPlaceFit (place_in xs)
+  unfolding place_in
+  in_place xs h place e =
+      place_fit (hole_of xs) (register_place (map atom_code xs)) (hole_placed xs h) (named_fit (map atom_code xs))
+      place e
+
   -- ---- addresses
+
+  abbrev IsBaseFit : Option (Option Place) → Type 0
+  IsBaseFit o = (base : Option Place) → o ≡ Some base → is_base_fit base ≡ true
+
+  abbrev IsIndexFit : Option (Option (Place × ℕ)) → Type 0
+  IsIndexFit o = (index : Option (Place × ℕ)) → o ≡ Some index → is_index_fit index ≡ true
+
+  no_base : IsBaseFit (Some None)
+  no_base base e = let same : None ≡ base = cc in subst (λ x. is_base_fit x ≡ true) same refl
+
+  no_index : IsIndexFit (Some None)
+  no_index index e = let same : None ≡ index = cc in subst (λ x. is_index_fit x ≡ true) same refl
+
+  some_base : (place : Option Place) → IsPlaceFit place → IsBaseFit (option_map Some place)
+  some_base None h base e = cc
+  some_base (Some place) h base e =
+      let same : Some place ≡ base = cc in subst (λ x. is_base_fit x ≡ true) same (h place refl)
+
+  base_fit : (xs : List Atom) → ArePlaced xs → IsBaseFit (base_in xs)
+  unfolding base_in
+  base_fit xs h base e =
+      cond_some (length xs == 0) (Some None) (option_map Some (place_in xs)) base (is_base_fit base ≡ true)
+      (λ c f. no_base base f) (λ c f. some_base (place_in xs) (in_place xs h) base f) e
+
+  indexed_fit : (place : Option Place) (scale : Option ℕ) → IsPlaceFit place → IsIndexFit (indexed place scale)
+  indexed_fit None scale h index e = cc
+  indexed_fit (Some place) None h index e = cc
+  indexed_fit (Some place) (Some scale) h index e =
+      let same : Some (place, scale) ≡ index = cc in subst (λ x. is_index_fit x ≡ true) same (h place refl)
+
+  index_fit : (xs : List Atom) (n : ℕ) → ArePlaced xs → IsIndexFit (index_in xs n)
+  unfolding index_in
+  index_fit xs n h index e =
+      cond_some (nat_lt n (length xs)) (indexed (place_in (trimmed (take n xs))) (scale_in (trimmed (drop (n + 1) xs))))
+      (indexed (place_in (trimmed xs)) (Some 1)) index (is_index_fit index ≡ true)
+      (λ c f. indexed_fit (place_in (trimmed (take n xs))) (scale_in (trimmed (drop (n + 1) xs)))
+      (in_place (trimmed (take n xs)) (trimmed_placed (take n xs) (take_placed n xs h))) index f)
+      (λ c f. indexed_fit (place_in (trimmed xs)) (Some 1) (in_place (trimmed xs) (trimmed_placed xs h)) index f) e
 
   abbrev IsOperandPlaced : Option LineOperand → Type 0
   IsOperandPlaced o = (a : LineOperand) → o ≡ Some a → is_operand_placed a ≡ true
 
   address_placed : (d : Option Disp) (base : Option (Option Place)) (index : Option (Option (Place × ℕ)))
-      → IsDispPlaced d → IsOperandPlaced (address d base index)
-  address_placed None base index h a e = cc
-  address_placed (Some d) None index h a e = cc
-  address_placed (Some d) (Some base) None h a e = cc
-  address_placed (Some d) (Some base) (Some index) h a e =
-      let same : LineOperand.Address d base index ≡ a = cc in subst (λ x. is_operand_placed x ≡ true) same (h d refl)
+      → IsDispPlaced d → IsBaseFit base → IsIndexFit index → IsOperandPlaced (address d base index)
+  address_placed None base index h b i a e = cc
+  address_placed (Some d) None index h b i a e = cc
+  address_placed (Some d) (Some base) None h b i a e = cc
+  address_placed (Some d) (Some base) (Some index) h b i a e =
+      let same : LineOperand.Address d base index ≡ a = cc in
+      subst (λ x. is_operand_placed x ≡ true) same
+      (and_of (is_number (placed_disp p d)) (is_base_fit base && is_index_fit index) (h d refl)
+      (and_of (is_base_fit base) (is_index_fit index) (b base refl) (i index refl)))
 
-  between_placed : (d : Option Disp) (xs : List Atom) (n : ℕ) → IsDispPlaced d → IsOperandPlaced (between d xs n)
+  between_placed : (d : Option Disp) (xs : List Atom) (n : ℕ) → IsDispPlaced d → ArePlaced xs
+      → IsOperandPlaced (between d xs n)
   unfolding between
-  between_placed d xs n h a e =
+  between_placed d xs n h placed a e =
       let rest = drop (n + 1) xs in
-      cond_some (nat_lt n (length xs))
-      (address d (base_in (trimmed (take n xs))) (index_in rest (before 44 (map atom_code rest))))
+      let first = trimmed (take n xs) in
+      let comma = before 44 (map atom_code rest) in
+      cond_some (nat_lt n (length xs)) (address d (base_in first) (index_in rest comma))
       (address d (option_map Some (place_in (trimmed xs))) (Some None)) a (is_operand_placed a ≡ true)
-      (λ c f. address_placed d (base_in (trimmed (take n xs))) (index_in rest (before 44 (map atom_code rest))) h a f)
-      (λ c f. address_placed d (option_map Some (place_in (trimmed xs))) (Some None) h a f) e
+      (λ c f. address_placed d (base_in first) (index_in rest comma) h
+      (base_fit first (trimmed_placed (take n xs) (take_placed n xs placed)))
+      (index_fit rest comma (drop_placed (n + 1) xs placed)) a f)
+      (λ c f. address_placed d (option_map Some (place_in (trimmed xs))) (Some None) h
+      (some_base (place_in (trimmed xs)) (in_place (trimmed xs) (trimmed_placed xs placed))) no_index a f) e
 
-  enclosed_placed : (d : Option Disp) (xs : List Atom) (n : ℕ) → IsDispPlaced d → IsOperandPlaced (enclosed d xs n)
+  enclosed_placed : (d : Option Disp) (xs : List Atom) (n : ℕ) → IsDispPlaced d → ArePlaced xs
+      → IsOperandPlaced (enclosed d xs n)
   unfolding enclosed
-  enclosed_placed d xs zero h a e = cc
-  enclosed_placed d xs (suc n) h a e =
+  enclosed_placed d xs zero h placed a e = cc
+  enclosed_placed d xs (suc n) h placed a e =
       let inner = take n xs in
       cond_some (slice_index (map atom_code xs) n == 41) (between d inner (before 44 (map atom_code inner))) None a
       (is_operand_placed a ≡ true)
-      (λ c f. between_placed d inner (before 44 (map atom_code inner)) h a f) (λ c f. cc) e
+      (λ c f. between_placed d inner (before 44 (map atom_code inner)) h (take_placed n xs placed) a f) (λ c f. cc) e
 
   address_of_placed : (xs : List Atom) → ArePlaced xs → IsOperandPlaced (address_of xs)
   unfolding address_of address_at
@@ -157,8 +252,8 @@ module _ (p : Placement) (is_place_fit : Place → Bool) (registers : (r : Reg) 
       cond_some (nat_lt n (length xs)) (enclosed (front_disp (ended (take n xs))) rest (length rest))
       (address (disp_in xs) (Some None) (Some None)) a (is_operand_placed a ≡ true)
       (λ c f. enclosed_placed (front_disp (ended (take n xs))) rest (length rest)
-      (front_placed (ended (take n xs)) (ended_placed (take n xs) (take_placed n xs h))) a f)
-      (λ c f. address_placed (disp_in xs) (Some None) (Some None) (disp_placed xs h) a f) e
+      (front_placed (ended (take n xs)) (ended_placed (take n xs) (take_placed n xs h))) (drop_placed (n + 1) xs h) a f)
+      (λ c f. address_placed (disp_in xs) (Some None) (Some None) (disp_placed xs h) no_base no_index a f) e
 
   -- ---- operands
 
@@ -200,7 +295,8 @@ module _ (p : Placement) (is_place_fit : Place → Bool) (registers : (r : Reg) 
     hole_operand_placed (Leaf.Immediate d) other h written a e =
         let same : LineOperand.Immediate d ≡ a = cc in subst (λ x. is_operand_placed x ≡ true) same h
     hole_operand_placed (Leaf.Bare d known) other h written a e =
-        let same : LineOperand.Address d None None ≡ a = cc in subst (λ x. is_operand_placed x ≡ true) same h
+        let same : LineOperand.Address d None None ≡ a = cc in
+        subst (λ x. is_operand_placed x ≡ true) same (and_of (is_number (placed_disp p d)) true h refl)
     hole_operand_placed (Leaf.Memory k form) other h written a e =
         let same : LineOperand.Memory k form ≡ a = cc in subst (λ x. is_operand_placed x ≡ true) same h
     hole_operand_placed Leaf.Nameless other h written a e = cc

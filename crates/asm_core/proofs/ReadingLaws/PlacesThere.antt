@@ -1,7 +1,7 @@
 -- Under a placement by letters each instruction of the lines under a shape is placed. A place of operands in it is one
 -- that an operand
 -- has of its own.
-use Rattle.std.proofs.Common.{◌≡◌, ℕ, zero, suc, ℤ, not, cond, is_none, eq-eqb, ◌==◌, ◌+◌, ◌&&◌, ◌≤◌, All, List, [], ◌∷◌, length, map, drop, Bool, true, false, Option, None, Some, Ok, refl, ap, sym, subst, ◌∙◌, slice_get, arith}
+use Rattle.std.proofs.Common.{◌≡◌, ℕ, zero, suc, ℤ, not, cond, is_none, is_some, eq-eqb, ◌==◌, ◌+◌, ◌&&◌, All, List, [], ◌∷◌, length, map, drop, Bool, true, false, Option, None, Some, Ok, refl, ap, subst, ◌∙◌, slice_get, arith}
 use Rattle.std.proofs.lemmas.List.{length-map}
 use Rattle.std.proofs.lemmas.List.Elements.{All-nil, All-cons}
 use Rattle.std.specs.List.{list_all}
@@ -11,14 +11,14 @@ use Rattle.asm_core.specs.RowLaws.{IsPlaced}
 use Rattle.asm_core.specs.Reading.Cut.{Raw, labels_from, instruction_count}
 use Rattle.asm_core.specs.Reading.Operands.{atom_code, trimmed}
 use Rattle.asm_core.specs.Reading.Facts.{fixed_register, allows_byte_names, facts_from, alternative_at, facts_with, facts_of, slice_of, register_leaf, number_leaf, memory_leaf, disp_of, leaf_by, leaf_of, is_byte_slice, is_fixed_cl, place_of, atom_of}
-use Rattle.asm_core.specs.Reading.Line.{Defined, goal_of, line_of, name_len, place_from, readings_from, readings_of, disp_arg, arg_of, sym_of, inst_of_reading, template_raws, lines_under}
+use Rattle.asm_core.specs.Reading.Line.{Defined, goal_of, line_of, name_len, place_from, readings_from, readings_of, disp_arg, arg_of, inst_of_reading, template_raws, lines_under}
 use Rattle.asm_core.specs.Reading.Placed.{placed_disp, spot_disp, operand_under}
 use Rattle.asm_core.specs.Reading.UnderShape.{IsLettered, statements_of}
 use Rattle.asm_core.proofs.ReadingLaws.BodiesRead.{statements-kept}
 use Rattle.asm_core.proofs.ReadingLaws.CutKept.{raw_map}
 use Rattle.asm_core.proofs.ReadingLaws.InstsRead.{line_operands, line_there, insts_are}
 use Rattle.asm_core.proofs.ReadingLaws.OperandsBack.{FitsFacts, root_is, root_untied, facts_hold}
-use Rattle.asm_core.proofs.ReadingLaws.OperandsFit.{is_number, is_memory, is_leaf_placed, is_operand_placed, ArePlaced, drop_placed, trimmed_placed, operands_fit}
+use Rattle.asm_core.proofs.ReadingLaws.OperandsFit.{is_number, is_memory, is_base_fit, is_index_fit, is_leaf_placed, is_operand_placed, ArePlaced, drop_placed, trimmed_placed, operands_fit}
 use Rattle.asm_core.specs.declared.reg.Reg.{Reg}
 use Rattle.asm_core.specs.declared.reg.Slice.{Slice}
 use Rattle.asm_core.specs.declared.sym.Place.{Place}
@@ -40,7 +40,6 @@ use Rattle.asm_core.specs.declared.interface.Interface.{Interface}
 use Rattle.asm_core.specs.declared.reading.OperandFacts.{OperandFacts}
 use Rattle.asm_core.specs.declared.reading.Leaf.{Leaf}
 use Rattle.asm_core.specs.declared.reading.Atom.{Atom}
-use Rattle.asm_core.specs.declared.reading.Line.{Line}
 use Rattle.asm_core.specs.declared.reading.LineOperand.{LineOperand}
 use Rattle.asm_core.specs.declared.lines.Lines.{Lines}
 
@@ -74,6 +73,18 @@ is_register Spot.Pair = true
 is_register (Spot.Memory form) = false
 is_register (Spot.Number n) = false
 
+abbrev pub is_memory_kind : Option Kind → Bool
+is_memory_kind (Some Kind.Memory) = true
+is_memory_kind kind = false
+
+-- operand k is tied to none, and in memory
+abbrev pub has_own_address : Interface → Shape → ℕ → Bool
+has_own_address i s k = (tie_root i s k == k) && (is_some (slice_get i.operands k) && is_memory_kind (slice_get s.kinds k))
+
+-- and the placement puts it there
+abbrev is_memory_fit : Interface → Shape → Placement → ℕ → Bool
+is_memory_fit i s p k = is_memory (spot_of p k) && has_own_address i s k
+
 -- a register, or the place that an operand has of its own and that the placement puts into a register
 abbrev is_place_fit : Interface → Shape → Placement → Place → Bool
 is_place_fit i s p (Place.Reg r) = true
@@ -82,9 +93,10 @@ is_place_fit i s p (Place.Operand k) = is_register (spot_of p k) && has_own_plac
 register_fit : (i : Interface) (s : Shape) (p : Placement) (r : Reg) → is_place_fit i s p (Place.Reg r) ≡ true
 register_fit i s p r = refl
 
--- the place that such an operand has is its own
-abbrev IsOwn : Interface → Shape → OperandFacts → Type 0
-IsOwn i s fact = fact.kind ≡ Kind.Register → fact.fixed ≡ None → has_own_place i s fact.root ≡ true
+-- the place that such an operand has is its own, and so is an address
+record IsOwn (i : Interface) (s : Shape) (fact : OperandFacts) : Type 0 where
+  register : fact.kind ≡ Kind.Register → fact.fixed ≡ None → has_own_place i s fact.root ≡ true
+  memory : fact.kind ≡ Kind.Memory → has_own_address i s fact.root ≡ true
 
 module _ (i : Interface) (s : Shape) (is : IsInterface i) where
   root_own : (root : ℕ) (ro : OperandIface) (alt : AltIface) (kind : Kind) → slice_get i.operands root ≡ Some ro
@@ -97,6 +109,15 @@ module _ (i : Interface) (s : Shape) (is : IsInterface i) where
       let own : tie_root i s root ≡ root = root_is i s root ro (Some alt) eo found ∙ rw untied refl in
       let free : is_free (Some ro) (Some alt) (Some kind) ≡ true = rw (same, none) refl in
       and_of (tie_root i s root == root) _ (eq-eqb (tie_root i s root) root own) (rw (eo, found, ek) free)
+
+  root_address : (root : ℕ) (ro : OperandIface) (alt : AltIface) (kind : Kind) → slice_get i.operands root ≡ Some ro
+      → alternative_at (slice_get i.operands root) s.alternative ≡ Some alt → slice_get s.kinds root ≡ Some kind
+      → alt.tied ≡ None → kind ≡ Kind.Memory → has_own_address i s root ≡ true
+  root_address root ro alt kind eo ea ek untied same =
+      let found : slice_get ro.alts s.alternative ≡ Some alt = subst (λ o. alternative_at o s.alternative ≡ Some alt)
+      eo ea in
+      let own : tie_root i s root ≡ root = root_is i s root ro (Some alt) eo found ∙ rw untied refl in
+      and_of (tie_root i s root == root) _ (eq-eqb (tie_root i s root) root own) (rw (eo, ek, same) refl)
 
   from_own : (k : ℕ) (o : OperandIface) → slice_get i.operands k ≡ Some o
       → (ro : Option OperandIface) (ra : Option AltIface) (kind : Option Kind) (fact : OperandFacts)
@@ -120,8 +141,11 @@ module _ (i : Interface) (s : Shape) (is : IsInterface i) where
       }) ≡ fact = cc in
       let found : alternative_at (slice_get i.operands root) s.alternative ≡ Some alt = ap
       (λ x. alternative_at x s.alternative) eo ∙ ea in
-      subst (IsOwn i s) same
-      (λ is_kind none. root_own root ro alt kind eo found ek (root_untied i s is k o there ro alt eo ea) is_kind none)
+      let untied = root_untied i s is k o there ro alt eo ea in
+      subst (IsOwn i s) same (record {
+        register = λ is_kind none. root_own root ro alt kind eo found ek untied is_kind none;
+        memory = λ is_kind. root_address root ro alt kind eo found ek untied is_kind;
+      })
 
   facts_own : (k : ℕ) (o : OperandIface) (fact : OperandFacts) → slice_get i.operands k ≡ Some o
       → facts_of i s k ≡ Some fact → IsOwn i s fact
@@ -136,7 +160,7 @@ module _ (i : Interface) (s : Shape) (is : IsInterface i) where
 
 module _ (i : Interface) (s : Shape) (p : Placement) (fact : OperandFacts) (own : IsOwn i s fact) where
   abbrev is_leaf_fit : Leaf → Bool
-  is_leaf_fit leaf = is_leaf_placed p (is_place_fit i s p) (register_fit i s p) leaf
+  is_leaf_fit leaf = is_leaf_placed p (is_place_fit i s p) (register_fit i s p) (is_memory_fit i s p) leaf
 
   named_or : (b : Bool) (leaf : Leaf) → is_leaf_fit leaf ≡ true → is_leaf_fit (cond b Leaf.Nameless leaf) ≡ true
   named_or true leaf h = refl
@@ -145,7 +169,7 @@ module _ (i : Interface) (s : Shape) (p : Placement) (fact : OperandFacts) (own 
   place_there : (fixed : Option Reg) → fact.kind ≡ Kind.Register → fact.fixed ≡ fixed
       → is_register (spot_of p fact.root) ≡ true
       → is_place_fit i s p (elim fixed [ None ↦ Place.Operand fact.root | Some r ↦ Place.Reg r ]) ≡ true
-  place_there None kind e h = and_of (is_register (spot_of p fact.root)) (has_own_place i s fact.root) h (own kind e)
+  place_there None kind e h = and_of (is_register (spot_of p fact.root)) (has_own_place i s fact.root) h (own.register kind e)
   place_there (Some r) kind e h = refl
 
   register_there : (slice : Option Slice) → fact.kind ≡ Kind.Register → is_register (spot_of p fact.root) ≡ true
@@ -169,7 +193,7 @@ module _ (i : Interface) (s : Shape) (p : Placement) (fact : OperandFacts) (own 
   number_there Modifier.W h = h
   number_there Modifier.K h = h
 
-  memory_there : (m : Modifier) → is_memory (spot_of p fact.root) ≡ true → is_leaf_fit (memory_leaf fact m) ≡ true
+  memory_there : (m : Modifier) → is_memory_fit i s p fact.root ≡ true → is_leaf_fit (memory_leaf fact m) ≡ true
   memory_there Modifier.H h = refl
   memory_there Modifier.C h = refl
   memory_there Modifier.Plain h = h
@@ -187,7 +211,8 @@ module _ (i : Interface) (s : Shape) (p : Placement) (fact : OperandFacts) (own 
   by_kind Kind.Number m (Spot.Register r) kind e fits = absurd fits
   by_kind Kind.Number m Spot.Pair kind e fits = absurd fits
   by_kind Kind.Number m (Spot.Memory f) kind e fits = absurd fits
-  by_kind Kind.Memory m (Spot.Memory f) kind e fits = memory_there m (rw e refl)
+  by_kind Kind.Memory m (Spot.Memory f) kind e fits =
+      memory_there m (and_of (is_memory (spot_of p fact.root)) (has_own_address i s fact.root) (rw e refl) (own.memory kind))
   by_kind Kind.Memory m (Spot.Register r) kind e fits = absurd fits
   by_kind Kind.Memory m Spot.Pair kind e fits = absurd fits
   by_kind Kind.Memory m (Spot.Number n) kind e fits = absurd fits
@@ -195,8 +220,22 @@ module _ (i : Interface) (s : Shape) (p : Placement) (fact : OperandFacts) (own 
 -- ---- operands of lines
 
 -- a place of operands in it is one that an operand has of its own
+abbrev pub is_place_own : Interface → Shape → Place → Bool
+is_place_own i s (Place.Reg r) = true
+is_place_own i s (Place.Operand k) = has_own_place i s k
+
+abbrev pub is_base_own : Interface → Shape → Option Place → Bool
+is_base_own i s None = true
+is_base_own i s (Some place) = is_place_own i s place
+
+abbrev pub is_index_own : Interface → Shape → Option (Place × ℕ) → Bool
+is_index_own i s None = true
+is_index_own i s (Some x) = is_place_own i s x.0
+
 abbrev pub is_arg_own : Interface → Shape → Arg → Bool
-is_arg_own i s (Arg.Register (Place.Operand k) slice) = has_own_place i s k
+is_arg_own i s (Arg.Register place slice) = is_place_own i s place
+is_arg_own i s (Arg.Memory k) = has_own_address i s k
+is_arg_own i s (Arg.Address d base index) = is_base_own i s base && is_index_own i s index
 is_arg_own i s arg = true
 
 -- what is known of an instruction of the lines
@@ -206,10 +245,10 @@ pub record IsFit (i : Interface) (s : Shape) (p : Placement) (line : Sym) : Type
 
 module _ (i : Interface) (s : Shape) (p : Placement) where
   abbrev is_operand_fit : LineOperand → Bool
-  is_operand_fit o = is_operand_placed p (is_place_fit i s p) (register_fit i s p) o
+  is_operand_fit o = is_operand_placed p (is_place_fit i s p) (register_fit i s p) (is_memory_fit i s p) o
 
   abbrev AreFit : List Atom → Type 0
-  AreFit xs = ArePlaced p (is_place_fit i s p) (register_fit i s p) xs
+  AreFit xs = ArePlaced p (is_place_fit i s p) (register_fit i s p) (is_memory_fit i s p) xs
 
   register_some : (place : Place) (slice : Slice) → is_place_fit i s p place ≡ true
       → operand_under p (Arg.Register place slice) ≡ None → ⊥
@@ -252,8 +291,8 @@ module _ (i : Interface) (s : Shape) (p : Placement) where
   operand_some : (count : ℕ) (o : LineOperand) → is_operand_fit o ≡ true → operand_under p (arg_of count o) ≡ None → ⊥
   operand_some count (LineOperand.Register place slice is_count) h e = register_some place slice h e
   operand_some count (LineOperand.Immediate d) h e = number_some d h e
-  operand_some count (LineOperand.Memory k form) h e = memory_some k h e
-  operand_some count (LineOperand.Address d base index) h e = address_some d base index h e
+  operand_some count (LineOperand.Memory k form) h e = memory_some k (first_true _ _ h) e
+  operand_some count (LineOperand.Address d base index) h e = address_some d base index (first_true _ _ h) e
   operand_some count (LineOperand.Label goal) h e = cc
 
   operands_some : (count : ℕ) (os : List LineOperand) → list_all is_operand_fit os ≡ true → (k : ℕ) (arg : Arg)
@@ -268,13 +307,28 @@ module _ (i : Interface) (s : Shape) (p : Placement) where
   number_own (Disp.Number n) = refl
   number_own (Disp.Hole k) = refl
 
+  place_own : (place : Place) → is_place_fit i s p place ≡ true → is_place_own i s place ≡ true
+  place_own (Place.Reg r) h = refl
+  place_own (Place.Operand k) h = both_true (is_register (spot_of p k)) (has_own_place i s k) h
+
+  base_own : (base : Option Place) → is_base_fit p (is_place_fit i s p) (register_fit i s p) (is_memory_fit i s p) base ≡ true
+      → is_base_own i s base ≡ true
+  base_own None h = refl
+  base_own (Some place) h = place_own place h
+
+  index_own : (index : Option (Place × ℕ)) → is_index_fit p (is_place_fit i s p) (register_fit i s p) (is_memory_fit i s p) index ≡ true
+      → is_index_own i s index ≡ true
+  index_own None h = refl
+  index_own (Some x) h = place_own x.0 h
+
   operand_own : (count : ℕ) (o : LineOperand) → is_operand_fit o ≡ true → is_arg_own i s (arg_of count o) ≡ true
-  operand_own count (LineOperand.Register (Place.Reg r) slice is_count) h = refl
-  operand_own count (LineOperand.Register (Place.Operand k) slice is_count) h =
-      both_true (is_register (spot_of p k)) (has_own_place i s k) h
+  operand_own count (LineOperand.Register place slice is_count) h = place_own place h
   operand_own count (LineOperand.Immediate d) h = number_own d
-  operand_own count (LineOperand.Memory k form) h = refl
-  operand_own count (LineOperand.Address d base index) h = refl
+  operand_own count (LineOperand.Memory k form) h = both_true (is_memory (spot_of p k)) (has_own_address i s k) h
+  operand_own count (LineOperand.Address d base index) h =
+      let both = both_true (is_number (placed_disp p d)) _ h in
+      and_of (is_base_own i s base) (is_index_own i s index) (base_own base (first_true _ _ both))
+      (index_own index (both_true _ _ both))
   operand_own count (LineOperand.Label goal) h = refl
 
   operands_own : (count : ℕ) (os : List LineOperand) → list_all is_operand_fit os ≡ true
@@ -291,9 +345,9 @@ module _ (i : Interface) (s : Shape) (p : Placement) where
       let l = line_there count (line_of rows (goal_of labels n) before place body) inst e in
       let behind = drop (name_len (map atom_code body)) body in
       let os = line_operands rows (goal_of labels n) before place body l.0 l.1.0 in
-      let fit = operands_fit p (is_place_fit i s p) (register_fit i s p) (goal_of labels n) (trimmed behind)
-      (trimmed_placed p (is_place_fit i s p) (register_fit i s p) behind
-      (drop_placed p (is_place_fit i s p) (register_fit i s p) (name_len (map atom_code body)) body placed))
+      let fit = operands_fit p (is_place_fit i s p) (register_fit i s p) (is_memory_fit i s p) (goal_of labels n) (trimmed behind)
+      (trimmed_placed p (is_place_fit i s p) (register_fit i s p) (is_memory_fit i s p) behind
+      (drop_placed p (is_place_fit i s p) (register_fit i s p) (is_memory_fit i s p) (name_len (map atom_code body)) body placed))
       l.0.operands os in
       let few = fit.0 in
       let same : length (map (arg_of count) l.0.operands) ≡ length l.0.operands = rw length-map refl in
@@ -308,11 +362,11 @@ module _ (i : Interface) (s : Shape) (is : IsInterface i) (p : Placement) (lette
   no_facts k fact there f = let none : None ≡ Some fact = rw there at f in absurd (cc)
 
   hole_placed : (k : ℕ) (m : Modifier)
-      → is_leaf_placed p (is_place_fit i s p) (register_fit i s p) (leaf_of (facts_of i s k) m) ≡ true
+      → is_leaf_placed p (is_place_fit i s p) (register_fit i s p) (is_memory_fit i s p) (leaf_of (facts_of i s k) m) ≡ true
   hole_placed k m = by (slice_get i.operands k) refl (facts_of i s k) refl
     where
       by : (o : Option OperandIface) → slice_get i.operands k ≡ o → (fact : Option OperandFacts)
-          → facts_of i s k ≡ fact → is_leaf_placed p (is_place_fit i s p) (register_fit i s p) (leaf_of fact m) ≡ true
+          → facts_of i s k ≡ fact → is_leaf_placed p (is_place_fit i s p) (register_fit i s p) (is_memory_fit i s p) (leaf_of fact m) ≡ true
       by o there None f = refl
       by None there (Some fact) f = absurd (no_facts k fact there f)
       by (Some o) there (Some fact) f = let hold = facts_hold i s is p lettered k o there fact f in
@@ -321,7 +375,7 @@ module _ (i : Interface) (s : Shape) (is : IsInterface i) (p : Placement) (lette
   abbrev atom : Piece → Atom
   atom x = atom_of (facts_of i s) x
 
-  atom_placed : (x : Piece) → is_leaf_placed p (is_place_fit i s p) (register_fit i s p) (atom x).leaf ≡ true
+  atom_placed : (x : Piece) → is_leaf_placed p (is_place_fit i s p) (register_fit i s p) (is_memory_fit i s p) (atom x).leaf ≡ true
   atom_placed (Piece.Byte b at) = refl
   atom_placed (Piece.Unique at) = refl
   atom_placed (Piece.Hole k m at) = hole_placed k m
@@ -329,7 +383,7 @@ module _ (i : Interface) (s : Shape) (is : IsInterface i) (p : Placement) (lette
   atoms_placed : (xs : List Piece) → AreFit i s p (map atom xs)
   atoms_placed [] = refl
   atoms_placed (x ∷ xs) =
-      and_of (is_leaf_placed p (is_place_fit i s p) (register_fit i s p) (atom x).leaf) _ (atom_placed x)
+      and_of (is_leaf_placed p (is_place_fit i s p) (register_fit i s p) (is_memory_fit i s p) (atom x).leaf) _ (atom_placed x)
       (atoms_placed xs)
 
   readings_placed : (rows : List NameRow) (labels : List Defined) (n count : ℕ) (raws : List (Raw Piece))
