@@ -5,14 +5,15 @@ use Rattle.asm_core.specs.Reg.{IsIn}
 use Rattle.asm_core.specs.Placement.{spot_of, value_registers, is_output, IsAllowed}
 use Rattle.asm_core.specs.Shape.{shapes_of}
 use Rattle.asm_core.specs.Machine.{Location, Keeps, covers}
-use Rattle.asm_core.specs.Reading.{code_of}
+use Rattle.asm_core.specs.Reading.{IsCodeUnder}
 use Rattle.asm_core.specs.Run.{Outcome, run_of}
 use Rattle.asm_core.specs.Entry.{IsEntry, HasObject}
 use Rattle.asm_core.specs.declared.reg.Reg.{Reg}
 use Rattle.asm_core.specs.declared.flag.Flag.{Flag}
 use Rattle.asm_core.specs.declared.flag.Flag.TheVariants.{Df}
 use Rattle.asm_core.specs.declared.shape.Shape.{Shape}
-use Rattle.asm_core.specs.declared.sym.Sym.{Sym}
+use Rattle.asm_core.specs.declared.inst.Code.{Code}
+use Rattle.asm_core.specs.declared.piece.Piece.{Piece}
 use Rattle.asm_core.specs.declared.interface.OperandIface.{OperandIface}
 use Rattle.asm_core.specs.declared.interface.Interface.{Interface}
 use Rattle.asm_core.specs.declared.placement.Placement.{Placement}
@@ -71,8 +72,13 @@ IsFramed i s p entry (Outcome.Ended m) = Keeps (MayChange i s p entry) entry m
 IsFramed i s p entry (Outcome.Going m) = Keeps (MayDiffer i s p entry) entry m
 IsFramed i s p entry (Outcome.Failed fault m) = Keeps (MayDiffer i s p entry) entry m
 
--- Under every allowed placement of every shape, from every entry, whatever undefined bits and outside words come, and
--- after every number of steps, only declared outputs and clobbers have changed.
-pub record KeepsFrame (i : Interface) (lines : List Sym) : Type 0 where
-  pub each : (s : Shape) (p : Placement) (entry : Machine) (n : ℕ) (choices : List ℕ) (outside : List (List ℕ)) → IsMember s (shapes_of i) → IsAllowed i s p → IsEntry i s p entry
-      → IsFramed i s p entry (run_of (code_of p lines) n choices outside entry)
+-- From every entry under the placement, whatever undefined bits and outside words come, and after every number of steps, only
+-- declared outputs and clobbers have changed.
+pub record RunsFramed (i : Interface) (s : Shape) (p : Placement) (code : Code) : Type 0 where
+  pub each : (entry : Machine) (n : ℕ) (choices : List ℕ) (outside : List (List ℕ)) → IsEntry i s p entry → IsFramed i s p entry (run_of code n choices outside entry)
+
+-- Under every allowed placement of every shape the statement's text exists, each of its instructions is read, and the code that
+-- it is changes only declared outputs and clobbers.
+pub record KeepsFrame (i : Interface) (pieces : List Piece) : Type 0 where
+  pub each : (s : Shape) (p : Placement) (unique : ℕ) → IsMember s (shapes_of i) → IsAllowed i s p → unique < 2 ^ 32
+      → (code : Code) × IsCodeUnder i s p unique pieces code × RunsFramed i s p code

@@ -39,3 +39,5 @@ pub record IsInterface (i : Interface) : Type 0 where
   pub ties : (k a output : ℕ) (o : OperandIface) (alt : AltIface) → HasAlternative i k a o alt → alt.tied ≡ Some output → IsTie i k a output o alt
   pub early : (k a : ℕ) (o : OperandIface) (alt : AltIface) → HasAlternative i k a o alt → IsTrue alt.early → IsTrue (is_output o.role)
   pub numbers : (k a : ℕ) (o : OperandIface) (alt : AltIface) (range : ℤ × ℤ) → HasAlternative i k a o alt → alt.numbers ≡ Some range → HasNumber o alt range
+  -- a register letter stands for some of the seven registers
+  pub registers : (k a : ℕ) (o : OperandIface) (alt : AltIface) → HasAlternative i k a o alt → alt.regs.0 < 128

@@ -2,7 +2,8 @@
 use Rattle.std.proofs.Common.{◌≡◌, ◌↔◌, ℕ, nat_lt, List, length, map, Bool, true, false, cond, IsTrue, Option, Some, is_some, Ok, Err, refl, ap, sym, subst, ◌∙◌, slice_get, arith}
 use Rattle.std.proofs.lemmas.Option.{slice_get-map}
 use Rattle.std.specs.Option.{option_map}
-use Rattle.asm_core.specs.Lists.{optional_at}
+use Rattle.asm_core.specs.Lists.{IsMember, optional_at}
+use Rattle.asm_core.specs.Shape.{shapes_of}
 use Rattle.asm_core.specs.Comments.{uncommented}
 use Rattle.asm_core.specs.WellFormed.{IsInterface}
 use Rattle.asm_core.specs.Pieces.{piece_code, ArePieces}
@@ -24,6 +25,7 @@ use Rattle.asm_core.specs.declared.names.Prefix.{Prefix}
 use Rattle.asm_core.specs.declared.names.NameRow.{NameRow}
 use Rattle.asm_core.specs.declared.sym.Sym.{Sym}
 use Rattle.asm_core.specs.declared.piece.Piece.{Piece}
+use Rattle.asm_core.specs.declared.placement.Placement.{Placement}
 use Rattle.asm_core.specs.declared.shape.Shape.{Shape}
 use Rattle.asm_core.specs.declared.interface.Interface.{Interface}
 use Rattle.asm_core.specs.declared.reading.Atom.{Atom}
@@ -36,7 +38,7 @@ inst_there count (Reading.Read l) = refl
 inst_there count Reading.LeftOut = refl
 inst_there count Reading.Unread = refl
 
-module _ (rows : List NameRow) (i : Interface) (s : Shape) (is : IsInterface i) where
+module _ (rows : List NameRow) (i : Interface) (s : Shape) (is : IsInterface i) (some_lettered : IsMember s (shapes_of i) → (q : Placement) × IsLettered i s q) where
   abbrev atoms : List Piece → List Atom
   atoms xs = map (atom_of (facts_of i s)) xs
 
@@ -66,8 +68,8 @@ module _ (rows : List NameRow) (i : Interface) (s : Shape) (is : IsInterface i) 
           let same = body_read rows i s is goal before place has.some.placement 0 has.some.text body has.some.is_lettered apart has.some.is_text in
           subst IsTrue (sym (inst_there count line)) (rw (same, still_read has.some.placement line) at h)
 
-      exact : (q : _) → IsLettered i s q → IsTrue (is_some (inst_of_reading count line)) ↔ HasReading rows i s goal before body
-      exact q lettered = (reading q lettered, read)
+      exact : IsMember s (shapes_of i) → IsTrue (is_some (inst_of_reading count line)) ↔ HasReading rows i s goal before body
+      exact member = let q = some_lettered member in (reading q.0 q.1, read)
 
       placed : (p : _) (unique : ℕ) (text : _) → IsLettered i s p → body_text i p unique body ≡ Ok text → text_inst count (body_reading rows i s goal before text) ≡ option_map (inst_under p) (inst_of_reading count line)
       placed p unique text lettered e = rw (body_read rows i s is goal before place p unique text body lettered apart e) (reading-placed p count line)
@@ -115,7 +117,8 @@ module _ (rows : List NameRow) (i : Interface) (s : Shape) (is : IsInterface i) 
           );
     }
 
--- The lines of a template's pieces under a shape have an instruction exactly where the template has one with a reading.
-pub pieces_read_exactly : (rows : List NameRow) (i : Interface) (s : Shape) (ps : List Piece) (lines : Lines) → IsInterface i → ArePieces (length i.operands) ps → lines_under rows i s ps ≡ Ok lines
-    → ReadsExactly rows i s ps lines
-pieces_read_exactly rows i s ps lines is pieces read = reads_exactly rows i s is ps (are_apart (length i.operands) ps pieces) lines read
+-- The lines of a template's pieces under a shape have an instruction exactly where the template has one with a reading. That each
+-- shape has a placement by letters stands with shapes.
+pub pieces_read_exactly : (rows : List NameRow) (i : Interface) (s : Shape) (ps : List Piece) (lines : Lines) → IsInterface i → (IsMember s (shapes_of i) → (q : Placement) × IsLettered i s q)
+    → ArePieces (length i.operands) ps → lines_under rows i s ps ≡ Ok lines → ReadsExactly rows i s ps lines
+pieces_read_exactly rows i s ps lines is some_lettered pieces read = reads_exactly rows i s is some_lettered ps (are_apart (length i.operands) ps pieces) lines read

@@ -3,12 +3,13 @@
 use Rattle.std.specs.Prelude.{◌≡◌, ◌↔◌, ℕ, List, [], ◌∷◌, length, map, false, IsTrue, is_some, Option, None, Some, Result, Ok, slice_get}
 use Rattle.std.specs.Option.{option_map}
 use Rattle.asm_core.specs.Reg.{IsIn}
-use Rattle.asm_core.specs.Lists.{optional_at}
+use Rattle.asm_core.specs.Lists.{IsMember, optional_at}
 use Rattle.asm_core.specs.Comments.{uncommented}
 use Rattle.asm_core.specs.Pieces.{piece_code}
 use Rattle.asm_core.specs.Placement.{spot_of, tie_root, IsForm, IsNumber, HasOperand}
 use Rattle.asm_core.specs.Expansion.{expansion_with}
 use Rattle.asm_core.specs.Reading.Cut.{Raw, raws_of, labels_from, instruction_count}
+use Rattle.asm_core.specs.Shape.{shapes_of}
 use Rattle.asm_core.specs.Reading.Facts.{facts_of}
 use Rattle.asm_core.specs.Reading.Line.{goal_of, line_of, line_read}
 use Rattle.asm_core.specs.Reading.Text.{runs_of, atom_of_run, text_inst}
@@ -63,10 +64,10 @@ pub record HasReading (rows : List NameRow) (i : Interface) (s : Shape) (goal : 
   pub some : HasNames i s body
   pub each : (p : Placement) (unique : ℕ) (text : List Sign) → IsLettered i s p → body_text i p unique body ≡ Ok text → IsTrue (is_some (line_read (body_reading rows i s goal before text)))
 
--- Where the shape has a placement by letters at all, as each live one has, the instruction is there exactly where its body has
--- a reading; and it says what each text of the body says. `count` is the number that a label has that isn't there.
+-- Under each shape of the interface the instruction is there exactly where its body has a reading; and it says what each text of
+-- the body says. `count` is the number that a label has that isn't there.
 pub record IsReading (rows : List NameRow) (i : Interface) (s : Shape) (count : ℕ) (goal : List ℕ → Option (Option ℕ)) (before : List Prefix) (body : List Piece) (inst : Option Sym) : Type 0 where
-  pub exact : (q : Placement) → IsLettered i s q → IsTrue (is_some inst) ↔ HasReading rows i s goal before body
+  pub exact : IsMember s (shapes_of i) → IsTrue (is_some inst) ↔ HasReading rows i s goal before body
   pub placed : (p : Placement) (unique : ℕ) (text : List Sign) → IsLettered i s p → body_text i p unique body ≡ Ok text → text_inst count (body_reading rows i s goal before text) ≡ option_map (inst_under p) inst
 
 -- the statements of a template
