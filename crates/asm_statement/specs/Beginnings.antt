@@ -32,10 +32,14 @@ abbrev pub is_ready : Ready → Bool
 is_ready Unready = false
 is_ready _ = true
 
--- Brackets where a statement may begin, and parentheses behind an attribute's word there, hold attributes.
+-- parentheses behind an attribute's word where a statement may begin hold attributes
+abbrev pub parenthesis : List Opened → Before → Opened
+parenthesis opened b =
+    record { head = is_head b.class; attributes = is_attribute b.class && is_ready b.ready; block = in_block opened }
+
+-- So do brackets where a statement may begin.
 abbrev pub opened_behind : List Opened → Before → Class → List Opened
-opened_behind opened b OpenParen =
-    opened ++ (record { head = is_head b.class; attributes = is_attribute b.class && is_ready b.ready; block = in_block opened }) ∷ []
+opened_behind opened b OpenParen = opened ++ parenthesis opened b ∷ []
 opened_behind opened b OpenBracket = opened ++ (record { head = false; attributes = is_ready b.ready; block = in_block opened }) ∷ []
 opened_behind opened b OpenBrace = opened ++ (record { head = false; attributes = false; block = true }) ∷ []
 opened_behind opened b CloseParen = take (length opened - 1) opened

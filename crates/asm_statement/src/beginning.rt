@@ -1,7 +1,7 @@
 //! Which tokens begin an asm statement.
 
 ghost use Rattle.std.specs.Prelude.{◌≡◌, ◌<◌, length, IfOk, OnOk};
-ghost use Rattle.asm_statement.specs.Beginnings.{attributed, beginning_at, beginnings_of, begins, behind, in_block, innermost, is_attribute, is_covered, is_head, is_ready, nothing_before, opened_behind, ready_behind, ready_behind_bracket};
+ghost use Rattle.asm_statement.specs.Beginnings.{attributed, beginning_at, beginnings_of, begins, behind, in_block, innermost, is_attribute, is_covered, is_head, is_ready, nothing_before, opened_behind, parenthesis, ready_behind, ready_behind_bracket};
 
 use crate::class::Class;
 use crate::foreign::{begins_digraph, is_foreign};
@@ -168,7 +168,7 @@ impl Before {
 
     /// The bracket that opens behind it with a parenthesis.
     fn parenthesis(self, opened: &[Opened]) -> Opened
-        ensures { result ≡ record { head = is_head self.class; attributes = is_attribute self.class && is_ready self.ready; block = in_block opened.now } }
+        ensures { result ≡ parenthesis opened.now self }
     {
         Opened {
             head: matches!(self.class, Class::Head),
