@@ -34,13 +34,12 @@ beginnings-begin text o b k ts d lt e = beginnings-step text o b k ts d lt ∙ r
 pub ruleset beginning_steps = (beginnings-none, beginnings-other, beginnings-begin, append-nil)
 
 -- a beginning is found, and stands behind those before it
-pub found_one : (text : List ℕ) (o o' : List Opened) (b b' : Before) (c : Class) (k : ℕ) (ts : List Token) (t : Token) (list later whole : List Beginning) (g : Beginning)
-    → k < length ts → t ≡ get_or ts k t → c ≡ class_of text t → begins c b.ready ≡ true → o' ≡ opened_behind o b c → b' ≡ behind text o b t → g ≡ beginning_at k o b → later ≡ list ++ g ∷ []
+pub found_one : (text : List ℕ) (o o' : List Opened) (b b' : Before) (c : Class) (k : ℕ) (ts : List Token) (d : Token) (list later whole : List Beginning) (g : Beginning)
+    → k < length ts → c ≡ class_of text (get_or ts k d) → begins c b.ready ≡ true → o' ≡ opened_behind o b c → b' ≡ behind text o b (get_or ts k d)
+    → g ≡ beginning_at k o b → later ≡ list ++ g ∷ []
     → list ++ beginnings_from text o b k (drop k ts) ≡ whole → later ++ beginnings_from text o' b' (k + 1) (drop (k + 1) ts) ≡ whole
-found_one text o o' b b' c k ts t list later whole g lt here is begun opened passed same grown so_far =
+found_one text o o' b b' c k ts d list later whole g lt is begun opened passed same grown so_far =
     let rest = beginnings_from text o' b' (k + 1) (drop (k + 1) ts) in
-    let begun' : begins (class_of text t) b.ready ≡ true = rw (sym is) begun in
-    let begun'' : begins (class_of text (get_or ts k t)) b.ready ≡ true = rw (sym here) begun' in
-    let step : beginnings_from text o b k (drop k ts) ≡ g ∷ rest =
-    beginnings-begin text o b k ts t lt begun'' ∙ rw (sym here, opened, passed, same, is) refl in
+    let begun' : begins (class_of text (get_or ts k d)) b.ready ≡ true = rw (sym is) begun in
+    let step : beginnings_from text o b k (drop k ts) ≡ g ∷ rest = beginnings-begin text o b k ts d lt begun' ∙ rw (opened, passed, same, is) refl in
     rw grown (append_assoc list (g ∷ []) rest ∙ ap (λ (x : List Beginning). list ++ x) (sym step) ∙ so_far)
