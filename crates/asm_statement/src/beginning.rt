@@ -101,11 +101,8 @@ impl Ready {
         ensures { result ≡ ready_behind opened.now self class }
     {
         match class {
-            Class::Semicolon
-            | Class::OpenBrace
-            | Class::CloseBrace
-            | Class::Colon
-            | Class::Lead => Ready::Plain,
+            Class::Semicolon | Class::OpenBrace | Class::CloseBrace | Class::Colon | Class::Lead =>
+                Ready::Plain,
             Class::Extension | Class::Attribute => self.attributed(),
             Class::CloseParen | Class::CloseBracket => Ready::behind_bracket(opened),
             _ => Ready::Unready,

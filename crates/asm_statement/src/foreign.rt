@@ -34,11 +34,7 @@ pub fn begins_digraph(text: &[u8], token: &Token) -> bool
 fn is_raw_prefix(name: &[u8]) -> bool
     ensures { result ≡ is_raw_prefix name.now }
 {
-    is(name, b"R")
-        || is(name, b"LR")
-        || is(name, b"uR")
-        || is(name, b"UR")
-        || is(name, b"u8R")
+    is(name, b"R") || is(name, b"LR") || is(name, b"uR") || is(name, b"UR") || is(name, b"u8R")
 }
 
 /// Whether the compiler takes the name for more, or for less, `next` being the byte behind it.

@@ -7,8 +7,8 @@ ghost use Rattle.c_decls.specs.Declarations.{StandsIn, attributes_of, declaratio
 use crate::declarators::declare_all;
 use crate::hiding::{Hidden, declare};
 use crate::members::{name_of, specifiers_in};
-use crate::tag_names::name_tags_within;
 use crate::recovery::{Uncovered, uncovered_at};
+use crate::tag_names::name_tags_within;
 use crate::uncovered::hide_declaration;
 use asm_core::Memory;
 use c_reader::marks::is_semicolon;

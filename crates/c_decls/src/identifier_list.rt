@@ -69,7 +69,7 @@ pub fn has_list(source: &Source<'_>, first: usize) -> bool
 pub fn body_behind(source: &Source<'_>, more: usize, first: usize) -> Option<usize>
     requires { first < length source.now.tokens }
     ensures is { result ≡ body_behind source.now more first }
-    ensures behind { IfSome result (λ brace. first < brace) }
+    ensures within { IfSome result (λ brace. (first < brace) × (brace < length source.now.tokens)) }
 {
     let mut left = more;
     let mut i = first;
