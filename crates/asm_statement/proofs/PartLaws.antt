@@ -88,7 +88,7 @@ module _ (text : List ℕ) (ts : List Token) where
   unfolding body_of
   body_kept b next close =
       either_kept (is_nested next close) (outside ts b.at) _ tt
-      (either_kept b.in_block _ (outside ts b.at)
+      (either_kept (b.in_block && b.covered) _ (outside ts b.at)
       (either_kept (is_open_paren (class_at text ts (behind_words false text ts b.at))) _ (outside ts b.at)
       (formed_kept b.at (parts_at text ts (behind_words false text ts b.at + 1)) (parts_kept (behind_words false text ts b.at + 1))) tt) tt)
 

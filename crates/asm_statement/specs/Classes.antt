@@ -2,7 +2,7 @@
 use Rattle.std.specs.Prelude.{ℕ, Bool, true, false, List, ◌==◌, ◌||◌, nat_eq, if◌then◌else◌, codes}
 use Rattle.std.specs.Cmp.Lexicographic.{pointwise}
 use Rattle.asm_statement.specs.declared.class.Class.{Class}
-use Rattle.asm_statement.specs.declared.class.Class.TheVariants.{Keyword, Qualifier, Goto, Lead, Head, Name, Literal, Prefixed, OpenParen, CloseParen, OpenBracket, CloseBracket, OpenBrace, CloseBrace, Semicolon, Colon, Comma, Other}
+use Rattle.asm_statement.specs.declared.class.Class.TheVariants.{Keyword, Qualifier, Goto, Lead, Head, Extension, Attribute, Name, Literal, Prefixed, OpenParen, CloseParen, OpenBracket, CloseBracket, OpenBrace, CloseBrace, Semicolon, Colon, Comma, Other}
 
 abbrev pub same : List ℕ → List ℕ → Bool
 same name word = pointwise nat_eq name word
@@ -25,6 +25,13 @@ is_lead name = same name (codes "else") || same name (codes "do")
 abbrev pub is_head : List ℕ → Bool
 is_head name = same name (codes "if") || same name (codes "while") || same name (codes "for") || same name (codes "switch")
 
+abbrev pub is_extension : List ℕ → Bool
+is_extension name = same name (codes "__extension__")
+
+-- what has parentheses that a statement may follow as one that is outside (C11 6.10.9; GCC manual, "Statement Attributes")
+abbrev pub is_attribute : List ℕ → Bool
+is_attribute name = same name (codes "__attribute__") || same name (codes "__attribute") || same name (codes "_Pragma")
+
 unfoldable pub name_class : List ℕ → Class
 name_class name =
     if is_keyword name then Keyword
@@ -32,6 +39,8 @@ name_class name =
     else if is_goto name then Goto
     else if is_lead name then Lead
     else if is_head name then Head
+    else if is_extension name then Extension
+    else if is_attribute name then Attribute
     else Name
 
 -- The class of a punctuator by its first byte: no longer punctuator begins with one of these.
@@ -59,6 +68,8 @@ is_name Qualifier = true
 is_name Goto = true
 is_name Lead = true
 is_name Head = true
+is_name Extension = true
+is_name Attribute = true
 is_name Name = true
 is_name _ = false
 

@@ -1,4 +1,5 @@
 pub mod Classes
+pub mod Foreign
 pub mod Source
 pub mod Beginnings
 pub mod Literals

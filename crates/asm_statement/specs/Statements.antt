@@ -1,5 +1,5 @@
 -- The asm statements of a text.
-use Rattle.std.specs.Prelude.{ℕ, Bool, true, false, List, [], ◌∷◌, ◌+◌, nat_lt, if◌then◌else◌, Option, Some, None, drop}
+use Rattle.std.specs.Prelude.{ℕ, Bool, true, false, List, [], ◌∷◌, ◌+◌, ◌&&◌, nat_lt, if◌then◌else◌, Option, Some, None, drop}
 use Rattle.c_tokens.specs.declared.token.Token.{Token}
 use Rattle.c_tokens.specs.Closers.{closer_at}
 use Rattle.asm_core.specs.declared.mark.MarkKind.TheVariants as marks
@@ -50,12 +50,12 @@ formed ts keyword (Some parts) = bodies.Parts parts
 abbrev pub body_behind : List ℕ → List Token → ℕ → ℕ → Body
 body_behind text ts keyword paren = if is_open_paren (class_at text ts paren) then formed ts keyword (parts_at text ts (paren + 1)) else outside ts keyword
 
--- The parts, or that the statement is outside: it stands in no open brace, has `goto`, has the beginning of another
+-- The parts, or that the statement is outside: it stands in no open brace, behind attributes or a token that the compiler cuts otherwise, has `goto`, has the beginning of another
 -- statement inside its span, or is of another form.
 unfoldable pub body_of : List ℕ → List Token → Beginning → Option ℕ → Option ℕ → Body
 body_of text ts b next close =
     if is_nested next close then outside ts b.at
-    else if b.in_block then body_behind text ts b.at (behind_words false text ts b.at)
+    else if b.in_block && b.covered then body_behind text ts b.at (behind_words false text ts b.at)
     else outside ts b.at
 
 unfoldable pub statement_at : List ℕ → List Token → Beginning → Option ℕ → Statement

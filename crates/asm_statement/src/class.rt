@@ -1,7 +1,7 @@
 //! What a token is to the grammar of asm statements.
 
 ghost use Rattle.std.specs.Prelude.{◌≡◌};
-ghost use Rattle.asm_statement.specs.Classes.{same, is_keyword, is_qualifier, is_goto, is_lead, is_head, name_class, mark_class, literal_class, is_name, is_open_paren, is_close_paren, is_open_bracket, is_close_bracket, is_colon, is_comma, is_literal, ends_list, is_word};
+ghost use Rattle.asm_statement.specs.Classes.{same, is_keyword, is_qualifier, is_goto, is_lead, is_head, is_extension, is_attribute, name_class, mark_class, literal_class, is_name, is_open_paren, is_close_paren, is_open_bracket, is_close_bracket, is_colon, is_comma, is_literal, ends_list, is_word};
 
 /// What a token is to the grammar of asm statements.
 #[derive(Clone, Copy)]
@@ -17,6 +17,10 @@ pub enum Class {
     Lead,
     /// `if`, `while`, `for`, `switch`, whose parentheses a statement may follow.
     Head,
+    /// `__extension__`.
+    Extension,
+    /// `__attribute__`, `__attribute` and `_Pragma`, whose parentheses may stand before a statement.
+    Attribute,
     /// Any other name.
     Name,
     /// A string literal with no prefix.
@@ -36,7 +40,7 @@ pub enum Class {
 }
 
 /// Whether the name is spelt so.
-fn is(name: &[u8], word: &[u8]) -> bool
+pub fn is(name: &[u8], word: &[u8]) -> bool
     ensures { result ≡ same name.now word.now }
 {
     name == word
@@ -71,6 +75,18 @@ fn is_head(name: &[u8]) -> bool
     is(name, b"if") || is(name, b"while") || is(name, b"for") || is(name, b"switch")
 }
 
+fn is_extension(name: &[u8]) -> bool
+    ensures { result ≡ is_extension name.now }
+{
+    is(name, b"__extension__")
+}
+
+fn is_attribute(name: &[u8]) -> bool
+    ensures { result ≡ is_attribute name.now }
+{
+    is(name, b"__attribute__") || is(name, b"__attribute") || is(name, b"_Pragma")
+}
+
 /// The class of a name with these bytes.
 #[tactic(auto, unfolding(crate::specs::Classes::name_class))]
 pub fn name_class(name: &[u8]) -> Class
@@ -90,6 +106,12 @@ pub fn name_class(name: &[u8]) -> Class
     }
     if is_head(name) {
         return Class::Head;
+    }
+    if is_extension(name) {
+        return Class::Extension;
+    }
+    if is_attribute(name) {
+        return Class::Attribute;
     }
     Class::Name
 }
@@ -136,6 +158,8 @@ impl Class {
                 | Class::Goto
                 | Class::Lead
                 | Class::Head
+                | Class::Extension
+                | Class::Attribute
                 | Class::Name
         )
     }

@@ -3,6 +3,7 @@
 
 mod beginning;
 mod class;
+mod foreign;
 mod form_end;
 mod list;
 mod literal;

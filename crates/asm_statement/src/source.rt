@@ -18,13 +18,20 @@ fn between(text: &[u8], from: usize, to: usize) -> &[u8]
     &text[from..to]
 }
 
+/// The bytes of a token.
+pub fn bytes_of<'a>(text: &'a [u8], token: &Token) -> &'a [u8]
+    ensures { result.now ≡ slice_range text.now token.now.span.from token.now.span.to }
+{
+    between(text, token.span.from as usize, token.span.to as usize)
+}
+
 /// What the token is to the grammar of asm statements.
 pub fn class_of(text: &[u8], token: &Token) -> Class
     ensures { result ≡ class_of text.now token.now }
 {
     let from = token.span.from as usize;
     match token.kind {
-        TokenKind::Name => name_class(between(text, from, token.span.to as usize)),
+        TokenKind::Name => name_class(bytes_of(text, token)),
         TokenKind::Text => literal_class(byte_at(text, from)),
         TokenKind::Punct => mark_class(byte_at(text, from)),
         TokenKind::Number | TokenKind::Char => Class::Other,

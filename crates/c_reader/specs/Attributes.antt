@@ -1,5 +1,5 @@
 -- What GNU attributes ask for that changes sizes (GCC manual, "Attribute Syntax", "Common Variable Attributes", "Common Type Attributes").
-use Rattle.std.specs.Prelude.{ℕ, zero, suc, Bool, true, false, ◌+◌, ◌-◌, ◌&&◌, ◌||◌, nat_eq, codes, if◌then◌else◌, List, length, Option, Some, None}
+use Rattle.std.specs.Prelude.{◌≡◌, ℕ, zero, suc, Bool, true, false, ◌+◌, ◌-◌, ◌&&◌, ◌||◌, nat_eq, codes, if◌then◌else◌, List, length, Option, Some, None}
 use Rattle.std.specs.Cmp.Lexicographic.{pointwise}
 use Rattle.c_types.specs.declared.ctype.CType.{CType, Int, out-CType}
 use Rattle.c_types.specs.declared.ctype.CType.TheOpen.{CType-F}
@@ -13,7 +13,7 @@ use Rattle.c_reader.specs.declared.attributes.Asked.{Asked}
 use Rattle.c_reader.specs.declared.next.Next.{Next}
 use Rattle.c_reader.specs.declared.next.Next.TheVariants.{Done, More}
 use Rattle.c_reader.specs.Repeat.{repeated}
-use Rattle.c_reader.specs.Marks.{is_attribute, is_name, is_open_paren}
+use Rattle.c_reader.specs.Marks.{is_attribute, is_name, is_open_bracket, is_open_paren}
 
 abbrev pub no_attributes : Attributes
 no_attributes = record { vector = false; aligned = false; mode = modes.Unasked }
@@ -67,11 +67,35 @@ asked_from f i (suc n) = both (asked_by f i) (asked_from f (i + 1) n)
 abbrev pub begins_attribute : File → ℕ → Bool
 begins_attribute f i = is_attribute (word_at f i) && is_open_paren (word_at f (i + 1))
 
+-- two brackets open: attributes of C23 (6.7.12.1 there)
+abbrev pub opens_attribute : File → ℕ → Bool
+opens_attribute f i = is_open_bracket (word_at f i) && is_open_bracket (word_at f (i + 1))
+
+-- in these a mode isn't known
+abbrev unknown_mode : Mode → Mode
+unknown_mode modes.Unasked = modes.Unasked
+unknown_mode _ = modes.Other
+
+abbrev pub with_unknown_mode : Attributes → Attributes
+with_unknown_mode a = record a { mode = unknown_mode a.mode }
+
 abbrev pub attributes_step : File → ℕ → Attributes → Next Attributes Asked
 attributes_step f i asked =
     if begins_attribute f i
     then More (both asked (asked_from f (i + 1) (past_group f (i + 1) - (i + 1)))) (past_group f (i + 1))
+    else if opens_attribute f i
+    then More (both asked (with_unknown_mode (asked_from f i (past_group f i - i)))) (past_group f i)
     else Done (record { attributes = asked; end = i })
+
+-- where the attributes have ended
+abbrev pub EndsAt : ℕ → Next Attributes Asked → Type 0
+EndsAt i (Done found) = found.end ≡ i
+EndsAt i (More asked j) = Unit {0}
+
+-- they haven't
+abbrev pub GoesOn : Next Attributes Asked → Type 0
+GoesOn (Done found) = ⊥
+GoesOn (More asked j) = Unit {0}
 
 abbrev pub asked_at_end : ℕ → Attributes → Asked
 asked_at_end i asked = record { attributes = asked; end = i }

@@ -2,7 +2,7 @@
 use Rattle.std.specs.Prelude.{◌≡◌, ◌<◌, ℕ, Bool, true, false, ◌+◌, ◌==◌, ◌&&◌, ◌||◌, not, if◌then◌else◌, List, [], ◌∷◌, ◌++◌, length, Option, Some, None, ℤ, pos, negsuc, nat_lt}
 use Rattle.std.specs.Option.{option_and_then, option_map}
 use Rattle.c_types.specs.Types.{wrapped}
-use Rattle.c_types.specs.declared.ctype.CType.{CType, Pointer, Array, VariableArray, Function, out-CType}
+use Rattle.c_types.specs.declared.ctype.CType.{CType, Pointer, Array, VariableArray, Function, Unknown, out-CType}
 use Rattle.c_types.specs.declared.ctype.CType.TheOpen.{CType-F}
 use Rattle.c_words.specs.File.{File}
 use Rattle.c_words.specs.Words.{word_at, past_group}
@@ -25,6 +25,8 @@ use Rattle.c_reader.specs.declared.grammar.Declarator.{Declarator}
 use Rattle.c_reader.specs.declared.grammar.Parameter.{Parameter}
 use Rattle.c_reader.specs.declared.grammar.Parameters.{Parameters}
 use Rattle.c_reader.specs.declared.parameters.ReadParameter.{ReadParameter}
+use Rattle.c_reader.specs.declared.attributes.Attributes.{Attributes}
+use Rattle.c_reader.specs.declared.attributes.Asked.{Asked}
 use Rattle.c_reader.specs.declared.pointers.Pointers.{Pointers}
 use Rattle.c_reader.specs.declared.suffix.Suffix.{Suffix}
 use Rattle.c_reader.specs.declared.suffix.Suffix.TheVariants as suffixes
@@ -43,11 +45,17 @@ Pointing = Next Pointers Pointers
 abbrev pub pointed : Pointers → ℕ → Pointers
 pointed p i = record p { end = i }
 
-abbrev with_attributes : File → ℕ → Pointers → Pointing
-with_attributes f i p =
-    if begins_attribute f i
-    then More (record p { attributes = both p.attributes (attributes_at f i).attributes }) (attributes_at f i).end
-    else Done (pointed p i)
+-- with `aligned` or `packed` directly behind a star or a parenthesis the type so far isn't known: gcc counts them in `typeof`
+abbrev pub aligned_type : Attributes → CType → CType
+aligned_type a t = if a.aligned then Unknown else t
+
+abbrev pub with_attributes : Asked → Pointers → Pointers
+with_attributes asked p =
+    record p { ctype = aligned_type asked.attributes p.ctype; attributes = both p.attributes asked.attributes }
+
+abbrev with_group : File → ℕ → Pointers → Pointing
+with_group f i p =
+    if begins_attribute f i then More (with_attributes (attributes_at f i) p) (attributes_at f i).end else Done (pointed p i)
 
 abbrev with_star : ℕ → Pointers → Bool → Pointing
 with_star i p true = More (record p { ctype = wrapped Pointer p.ctype }) (i + 1)
@@ -56,7 +64,7 @@ with_star i p false = Done (pointed p i)
 unfoldable pub pointer_step : File → ℕ → Pointers → Pointing
 pointer_step f i p = elim (word_at f i) [
   | words.Qualifier ↦ More p (i + 1)
-  | words.Attribute ↦ with_attributes f i p
+  | words.Attribute ↦ with_group f i p
   | words.Punct q ↦ with_star i p (is_star (words.Punct q))
   | _ ↦ Done (pointed p i)
 ]
@@ -277,10 +285,11 @@ parameters_at f seen n context paren =
 
 -- ---- type names
 
+-- as of a typedef name `aligned` and `packed` count: gcc counts them in `typeof`
 abbrev pub named_type : File → Specifiers → Declarator → Option TypeName
 named_type f s d =
     let asked = attributes_from f (both s.attributes d.attributes) d.end in
-    option_map (λ t. record { ctype = t; end = asked.end }) (typed_with asked.attributes false d.ctype)
+    option_map (λ t. record { ctype = t; end = asked.end }) (typed_with asked.attributes true d.ctype)
 
 abbrev type_behind : File → Declared → Inner → Option Specifiers → Option TypeName
 type_behind f seen n None = None

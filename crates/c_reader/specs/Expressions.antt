@@ -1,5 +1,5 @@
 -- Expressions: their types and constants, in the order of C's grammar from the smallest to the largest (C11 6.5).
-use Rattle.std.specs.Prelude.{◌≡◌, ℕ, zero, suc, Bool, true, false, ◌+◌, ◌&&◌, ◌==◌, not, if◌then◌else◌, length, Option, Some, None}
+use Rattle.std.specs.Prelude.{◌≡◌, ℕ, zero, suc, Bool, true, false, ◌+◌, ◌&&◌, ◌||◌, ◌==◌, not, if◌then◌else◌, length, Option, Some, None}
 use Rattle.std.specs.Option.{option_and_then, option_map}
 use Rattle.c_types.specs.declared.ctype.CType.{CType}
 use Rattle.c_words.specs.File.{File}
@@ -25,7 +25,7 @@ use Rattle.c_reader.specs.declared.operators.Operator.{Operator}
 use Rattle.c_reader.specs.declared.operators.Assignment.{Assignment}
 use Rattle.c_reader.specs.declared.operators.Assignment.TheVariants as assignments
 use Rattle.c_reader.specs.Operators.{operator_of, assignment_in}
-use Rattle.c_reader.specs.Leaves.{named_value, number_value, character_value, text_value, texts_end}
+use Rattle.c_reader.specs.Leaves.{is_zero_at, named_value, number_value, character_value, text_value, texts_end}
 use Rattle.c_reader.specs.declared.next.Next.{Next}
 use Rattle.c_reader.specs.declared.next.Next.TheVariants.{Done, More}
 use Rattle.c_reader.specs.declared.grammar.Level.{Level}
@@ -176,6 +176,12 @@ opens_type f seen i = is_open_paren (word_at f i) && begins_type f seen (i + 1)
 abbrev pub spells_void_pointer : File → ℕ → Bool
 spells_void_pointer f i = is_void (word_at f i) && is_star (word_at f (i + 1)) && is_close_paren (word_at f (i + 2))
 
+-- Only a number that is 0, which may stand in parentheses, makes one: a 0 that was computed may not be a constant expression
+-- of the compiler's.
+abbrev pub spells_zero : File → ℕ → ℕ → Bool
+spells_zero f i end =
+    (is_zero_at f i && (end == i + 1)) || (is_open_paren (word_at f i) && is_zero_at f (i + 1) && (end == i + 3))
+
 abbrev pub never_null : Constant → Constant
 never_null constants.Null = constants.Varies
 never_null c = c
@@ -183,14 +189,15 @@ never_null c = c
 abbrev pub qualified : Bool → Value → Value
 qualified plain v = if plain then v else record v { constant = never_null v.constant }
 
-abbrev cast_value : Bool → CType → Option Typed → Option Typed
-cast_value plain t None = None
-cast_value plain t (Some x) = typed x.end (option_map (qualified plain) (cast_of t x.value))
+-- the operand begins at the index
+abbrev cast_value : File → Bool → CType → ℕ → Option Typed → Option Typed
+cast_value f plain t i None = None
+cast_value f plain t i (Some x) = typed x.end (option_map (qualified (plain && spells_zero f i x.end)) (cast_of t x.value))
 
 abbrev converted_to : File → Inner → Bool → Option TypeName → Option Typed
 converted_to f n plain None = None
 converted_to f n plain (Some t) =
-    if is_close_paren (word_at f t.end) then cast_value plain t.ctype (n.expression levels.Cast (t.end + 1)) else None
+    if is_close_paren (word_at f t.end) then cast_value f plain t.ctype (t.end + 1) (n.expression levels.Cast (t.end + 1)) else None
 
 unfoldable pub cast_at : File → Declared → Inner → ℕ → Option Typed
 cast_at f seen n i = if opens_type f seen i then converted_to f n (spells_void_pointer f (i + 1)) (n.type_name (i + 1)) else unary_at f seen n i

@@ -1,5 +1,5 @@
 -- Names, constants and string literals in an expression (C11 6.5.1).
-use Rattle.std.specs.Prelude.{ℕ, Bool, true, false, ◌+◌, if◌then◌else◌, List, length, Option, Some, None, slice_get, slice_range, ℤ}
+use Rattle.std.specs.Prelude.{ℕ, Bool, true, false, ◌+◌, ◌==◌, ◌&&◌, if◌then◌else◌, List, length, Option, Some, None, slice_get, slice_range, ℤ}
 use Rattle.std.specs.Option.{option_and_then, option_map}
 use Rattle.c_types.specs.declared.ctype.CType.{CType, Int}
 use Rattle.c_tokens.specs.declared.token.Token.{Token}
@@ -44,6 +44,17 @@ named_value f seen i = option_and_then (λ (d : Declaration). valued d.entity d.
 
 abbrev pub number_value : List ℕ → Option Value
 number_value bytes = option_map (λ (n : IntegerConstant). integer_constant n.size n.signed n.value) (integer_of bytes)
+
+-- an integer constant 0
+abbrev pub is_zero : List ℕ → Bool
+is_zero bytes = elim (integer_of bytes) [ None ↦ false | Some n ↦ n.value == 0 ]
+
+abbrev is_number : Word → Bool
+is_number words.Number = true
+is_number _ = false
+
+abbrev pub is_zero_at : File → ℕ → Bool
+is_zero_at f i = is_number (word_at f i) && is_zero (bytes_at f i)
 
 abbrev pub character_value : File → ℕ → Option Value
 character_value f i = option_and_then (λ (t : Token). option_map character_constant (character_of f.text t)) (slice_get f.tokens i)

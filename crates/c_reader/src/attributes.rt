@@ -1,9 +1,11 @@
 //! GNU attributes, as far as they change types (GCC manual, "Attribute Syntax").
 
 ghost use Rattle.std.specs.Prelude.{◌≡◌, ◌+◌, ◌-◌, ◌<◌, ◌≤◌, length, IsTrue, true};
-ghost use Rattle.c_reader.specs.Attributes.{is, asked_by, asked_from, asked_named, attributes_at, attributes_from, begins_attribute, both, both_modes, known, mode_behind, mode_named, no_attributes, typed_with, with_mode};
+ghost use Rattle.c_reader.specs.Attributes.{is, asked_by, asked_from, asked_named, attributes_at, attributes_from, attributes_step, begins_attribute, both, both_modes, known, mode_behind, mode_named, no_attributes, opens_attribute, typed_with, with_mode, with_unknown_mode, EndsAt, GoesOn};
+ghost use Rattle.c_reader.specs.Reads.{IsBehind};
 
-use crate::marks::is_open_paren;
+use crate::marks::{is_open_bracket, is_open_paren};
+use crate::next::Next;
 use c_types::CType;
 use c_words::{Punct, Source, Word};
 
@@ -96,6 +98,17 @@ impl Attributes {
             aligned: self.aligned || other.aligned,
             mode: self.mode.both(other.mode),
         }
+    }
+
+    /// The same of attributes of C23, in which a mode isn't known.
+    fn with_unknown_mode(self) -> Attributes
+        ensures { result ≡ with_unknown_mode self }
+    {
+        let mode = match self.mode {
+            Mode::Unasked => Mode::Unasked,
+            _ => Mode::Other,
+        };
+        Attributes { mode, ..self }
     }
 
     /// The type of a name declared with these attributes. `None` where it isn't known.
@@ -211,6 +224,37 @@ pub fn begins_attribute(source: &Source<'_>, i: usize) -> bool
     matches!(source.word(i), Word::Attribute) && is_open_paren(source.word(i + 1))
 }
 
+/// Whether attributes of C23 begin at the index: two brackets open (6.7.12.1 there).
+pub fn opens_attribute(source: &Source<'_>, i: usize) -> bool
+    ensures is { result ≡ opens_attribute source.now i }
+    ensures inside { IsTrue result → i + 1 < length source.now.tokens }
+{
+    is_open_bracket(source.word(i)) && is_open_bracket(source.word(i + 1))
+}
+
+/// One group of attributes, in any of their spellings.
+fn attributes_step(source: &Source<'_>, i: usize, asked: Attributes) -> Next<Attributes, Asked>
+    requires { i < length source.now.tokens }
+    ensures is { result ≡ attributes_step source.now i asked }
+    ensures further { IsBehind i result }
+    ensures ended { EndsAt i result }
+    ensures group { begins_attribute source.now i ≡ true → GoesOn result }
+{
+    if begins_attribute(source, i) {
+        let end = source.past(i + 1);
+        return Next::More(asked.both(asked_between(source, i + 1, end)), end);
+    }
+    if opens_attribute(source, i) {
+        let end = source.past(i);
+        let more = asked_between(source, i, end).with_unknown_mode();
+        return Next::More(asked.both(more), end);
+    }
+    Next::Done(Asked {
+        attributes: asked,
+        end: i,
+    })
+}
+
 /// What the attributes from the index on ask for, beside what is asked already.
 #[tactic(auto, using(crate::proofs::AttributeLemmas::attribute_steps))]
 pub fn attributes_from(source: &Source<'_>, already: Attributes, first: usize) -> Asked
@@ -221,15 +265,14 @@ pub fn attributes_from(source: &Source<'_>, already: Attributes, first: usize) -
     let mut asked = already;
     let mut i = first;
     while i < source.len() {
-        if !begins_attribute(source, i) {
-            return Asked {
-                attributes: asked,
-                end: i,
-            };
+        match attributes_step(source, i, asked) {
+            Next::Done(found) => return found,
+            Next::More(more, next) => {
+                asked = more;
+                i = next;
+                continue;
+            }
         }
-        let end = source.past(i + 1);
-        asked = asked.both(asked_between(source, i + 1, end));
-        i = end;
     }
     Asked {
         attributes: asked,

@@ -200,7 +200,7 @@ impl Reader<'_> {
         )?;
         let already = base.attributes.both(declarator.attributes);
         let asked = attributes_from(self.source, already, declarator.end);
-        match asked.attributes.typed(false, declarator.ctype) {
+        match asked.attributes.typed(true, declarator.ctype) {
             Some(ctype) => Ok(TypeName {
                 ctype,
                 end: asked.end,

@@ -1,7 +1,7 @@
 //! Names, constants and string literals in an expression.
 
 ghost use Rattle.std.specs.Prelude.{◌≡◌, ◌<◌, ◌≤◌, length};
-ghost use Rattle.c_reader.specs.Leaves.{character_value, named_value, number_value, text_value, texts_end, valued};
+ghost use Rattle.c_reader.specs.Leaves.{character_value, is_zero, is_zero_at, named_value, number_value, text_value, texts_end, valued};
 ghost use Rattle.c_words.specs.Words.{word_at};
 ghost use Rattle.c_words.specs.declared.word.Word.TheVariants.{Text};
 ghost use Rattle.c_values.specs.Ends.{Gives};
@@ -48,7 +48,24 @@ pub fn number_value(bytes: &[u8]) -> Result<Value, TypeEnd>
     }
 }
 
+/// Whether a number as it is written is an integer constant 0.
+fn is_zero(bytes: &[u8]) -> bool
+    ensures { result ≡ is_zero bytes.now }
+{
+    match c_literals::integer_constant(bytes) {
+        Some(number) => number.value == 0,
+        None => false,
+    }
+}
+
 impl Reader<'_> {
+    /// Whether an integer constant 0 stands at the index.
+    pub(crate) fn is_zero_at(&self, i: usize) -> bool
+        ensures { result ≡ is_zero_at self.now.source.now i }
+    {
+        matches!(self.source.word(i), Word::Number) && is_zero(self.source.bytes(i))
+    }
+
     /// The value of the name with this index.
     pub(crate) fn named_value(&self, alloc: Global, i: usize) -> Result<Value, TypeEnd>
         ensures { Gives result (named_value self.now.source.now self.now.scopes.now i) }

@@ -20,7 +20,7 @@ mod suffix;
 mod tag;
 mod unary;
 
-pub use attributes::{Asked, Attributes, Mode, attributes_at, attributes_from};
+pub use attributes::{Asked, Attributes, Mode, attributes_at, attributes_from, opens_attribute};
 pub use grammar::{
     Context, Declarator, Level, Parameter, Parameters, Shape, Specifiers, TypeName, Typed,
 };

@@ -1,10 +1,10 @@
 //! The stars of a declarator.
 
 ghost use Rattle.std.specs.Prelude.{◌≡◌, ◌≤◌, IfOk};
-ghost use Rattle.c_reader.specs.Declarators.{EndsAt, pointed, pointer_step, pointers_at};
+ghost use Rattle.c_reader.specs.Declarators.{EndsAt, aligned_type, with_attributes, pointed, pointer_step, pointers_at};
 ghost use Rattle.c_reader.specs.Reads.{IsBehind};
 
-use crate::attributes::{Attributes, attributes_at, begins_attribute};
+use crate::attributes::{Asked, Attributes, attributes_at, begins_attribute};
 use crate::next::Next;
 use asm_core::Memory;
 use c_types::CType;
@@ -17,6 +17,31 @@ pub struct Pointers {
     pub ctype: CType,
     pub attributes: Attributes,
     pub end: usize,
+}
+
+/// The type with these attributes directly behind a star or a parenthesis: gcc counts `aligned` and `packed` in `typeof`.
+fn aligned_type(attributes: Attributes, ctype: CType) -> CType
+    ensures { result ≡ aligned_type attributes ctype }
+{
+    if attributes.aligned {
+        CType::Unknown
+    } else {
+        ctype
+    }
+}
+
+impl Pointers {
+    fn with_attributes(self, asked: Asked) -> Pointers
+        ensures { result ≡ with_attributes asked self }
+    {
+        let attributes = self.attributes.both(asked.attributes);
+        let ctype = aligned_type(asked.attributes, self.ctype);
+        Pointers {
+            ctype,
+            attributes,
+            ..self
+        }
+    }
 }
 
 /// One star, qualifier or group of attributes.
@@ -38,14 +63,7 @@ fn pointer_step(
                 return Ok(Next::Done(Pointers { end: i, ..found }));
             }
             let asked = attributes_at(source, i);
-            let attributes = found.attributes.both(asked.attributes);
-            Ok(Next::More(
-                Pointers {
-                    attributes,
-                    ..found
-                },
-                asked.end,
-            ))
+            Ok(Next::More(found.with_attributes(asked), asked.end))
         }
         Word::Punct(Punct::Star) => {
             let ctype = CType::pointer_to(alloc, found.ctype)?;

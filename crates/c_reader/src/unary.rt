@@ -1,7 +1,7 @@
 //! Unary expressions and casts (C11 6.5.3, 6.5.4).
 
 ghost use Rattle.std.specs.Prelude.{◌≡◌, ◌+◌, ◌<◌, ◌≤◌, IfOk, IsTrue, length};
-ghost use Rattle.c_reader.specs.Expressions.{cast_at, is_prefix, never_null, opens_type, prefixed_value, qualified, size_operand_at, sized, spells_void_pointer, unary_at};
+ghost use Rattle.c_reader.specs.Expressions.{cast_at, is_prefix, never_null, opens_type, prefixed_value, qualified, size_operand_at, sized, spells_void_pointer, spells_zero, unary_at};
 ghost use Rattle.c_reader.specs.Nesting.{inner};
 ghost use Rattle.c_values.specs.Ends.{Gives};
 ghost use Rattle.c_values.specs.Literals.{sizeof_of};
@@ -51,7 +51,7 @@ fn prefixed_value(alloc: Global, punct: Punct, operand: Value) -> Result<Value, 
     }
 }
 
-/// The value of a cast, which is a null pointer constant only in the plain spelling.
+/// The value of a cast, which is a null pointer constant only in the plain spelling, of a 0 that is written.
 fn qualified(plain: bool, value: Value) -> Value
     ensures { result ≡ qualified plain value }
 {
@@ -79,6 +79,17 @@ impl Reader<'_> {
         ensures inside { IsTrue result → i < 4294967296 }
     {
         is_open_paren(self.source.word(i)) && self.begins_type(i + 1)
+    }
+
+    /// Whether an integer constant 0 stands from the index `i` up to `end`, in parentheses or not.
+    fn spells_zero(&self, i: usize, end: usize) -> bool
+        requires { i < 4294967296 }
+        ensures { result ≡ spells_zero self.now.source.now i end }
+    {
+        if self.is_zero_at(i) && end == i + 1 {
+            return true;
+        }
+        is_open_paren(self.source.word(i)) && self.is_zero_at(i + 1) && end == i + 3
     }
 
     /// Whether the plain spelling `void *)` stands at the index.
@@ -116,9 +127,10 @@ impl Reader<'_> {
             return Err(TypeEnd::NoType);
         }
         let operand = self.nested(alloc, depth, Level::Cast, to.end + 1)?;
+        let plain = self.spells_void_pointer(i + 1) && self.spells_zero(to.end + 1, operand.end);
         let value = cast_of(alloc, to.ctype, operand.value)?;
         Ok(Typed {
-            value: qualified(self.spells_void_pointer(i + 1), value),
+            value: qualified(plain, value),
             end: operand.end,
         })
     }

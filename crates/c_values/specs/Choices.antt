@@ -26,9 +26,18 @@ shared_at a b = None
 abbrev pub shared_type : CType → CType → Option CType
 shared_type a b = shared_at (out-CType a) (out-CType b)
 
--- Of two pointers a null pointer constant takes the other's type, and `void *` beside another stays; else it is the first's.
+-- the composite of two types that pointers point to: of types but structs and unions it isn't known, since types have no names here
+abbrev composite_at : CType-F CType → CType-F CType → CType
+composite_at (CType-F.Tagged m) (CType-F.Tagged n) = if m == n then types.Tagged m else types.Unknown
+composite_at a b = types.Unknown
+
+abbrev pub composite : CType → CType → CType
+composite p q = composite_at (out-CType p) (out-CType q)
+
+-- Of two pointers a null pointer constant takes the other's type, and `void *` beside another stays (6.5.15, 6).
 abbrev pub pointed_to : Constant → CType → Constant → CType → CType
-pointed_to x p y q = if is_null y then p else if is_null x then q else if is_void p then p else if is_void q then q else p
+pointed_to x p y q =
+    if is_null y then p else if is_null x then q else if is_void p then p else if is_void q then q else composite p q
 
 abbrev pub chosen_at : Scalar → Constant → Scalar → Constant → Option Scalar
 chosen_at (Number a) x (Number b) y = Some (Number (common a b))

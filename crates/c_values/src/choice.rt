@@ -1,15 +1,15 @@
 //! The conditional operator.
 
-ghost use Rattle.std.specs.Prelude.{◌≡◌};
+ghost use Rattle.std.specs.Prelude.{◌≡◌, IfOk};
 ghost use Rattle.c_values.specs.Ends.{Gives};
-ghost use Rattle.c_values.specs.Choices.{shared_type, pointed_to, chosen_at, selected, selected_as, conditional_of};
+ghost use Rattle.c_values.specs.Choices.{composite, shared_type, pointed_to, chosen_at, selected, selected_as, conditional_of};
 
 use crate::cast::is_void;
 use crate::scalar::{Operand, Scalar, operand_of};
 use crate::{Constant, TypeEnd, Value};
 use asm_core::Boxed;
 use c_types::CType;
-use std::alloc::Global;
+use std::alloc::{AllocError, Global};
 
 /// The type of two parts that are `void`, or the same struct or union.
 fn shared_type(a: &CType, b: &CType) -> Option<CType>
@@ -22,42 +22,63 @@ fn shared_type(a: &CType, b: &CType) -> Option<CType>
     }
 }
 
-/// What the result points to, of two pointers.
-fn pointed_to(first: Constant, a: Boxed<CType>, second: Constant, b: Boxed<CType>) -> Boxed<CType>
-    ensures { result ≡ pointed_to first a second b }
+/// What the result points to, of two pointers to known types: the same struct or union, or it isn't known.
+fn composite(a: &CType, b: &CType) -> CType
+    ensures { result ≡ composite a.now b.now }
 {
-    if second.is_null() {
-        a
-    } else if first.is_null() {
-        b
-    } else if !is_void(a.get()) && is_void(b.get()) {
-        b
-    } else {
-        a
+    match (a, b) {
+        (CType::Tagged(a), CType::Tagged(b)) if *a == *b => CType::Tagged(*a),
+        _ => CType::Unknown,
     }
 }
 
+/// What the result points to, of two pointers.
+fn pointed_to(
+    alloc: Global,
+    first: Constant,
+    a: Boxed<CType>,
+    second: Constant,
+    b: Boxed<CType>,
+) -> Result<Boxed<CType>, AllocError>
+    ensures { IfOk result (λ t. t ≡ pointed_to first a second b) }
+{
+    if second.is_null() {
+        return Ok(a);
+    }
+    if first.is_null() {
+        return Ok(b);
+    }
+    if is_void(a.get()) {
+        return Ok(a);
+    }
+    if is_void(b.get()) {
+        return Ok(b);
+    }
+    Boxed::new(alloc, composite(a.get(), b.get()))
+}
+
 /// The type of two scalar parts.
-fn chosen_type(a: Operand, b: Operand) -> Option<Scalar>
-    ensures { result ≡ chosen_at a.scalar a.constant b.scalar b.constant }
+fn chosen_type(alloc: Global, a: Operand, b: Operand) -> Result<Scalar, TypeEnd>
+    ensures { Gives result (chosen_at a.scalar a.constant b.scalar b.constant) }
 {
     match (a.scalar, b.scalar) {
-        (Scalar::Number(x), Scalar::Number(y)) => Some(Scalar::Number(x.common(y))),
+        (Scalar::Number(x), Scalar::Number(y)) => Ok(Scalar::Number(x.common(y))),
         (Scalar::Pointer(p), Scalar::Pointer(q)) => {
-            Some(Scalar::Pointer(pointed_to(a.constant, p, b.constant, q)))
+            let to = pointed_to(alloc, a.constant, p, b.constant, q)?;
+            Ok(Scalar::Pointer(to))
         }
         (Scalar::Pointer(p), Scalar::Number(_)) => {
             if b.constant.is_null() {
-                Some(Scalar::Pointer(p))
+                Ok(Scalar::Pointer(p))
             } else {
-                None
+                Err(TypeEnd::NoType)
             }
         }
         (Scalar::Number(_), Scalar::Pointer(q)) => {
             if a.constant.is_null() {
-                Some(Scalar::Pointer(q))
+                Ok(Scalar::Pointer(q))
             } else {
-                None
+                Err(TypeEnd::NoType)
             }
         }
     }
@@ -88,7 +109,7 @@ fn selected_as(t: &Scalar, constant: Constant) -> Constant
 
 /// What `condition ? a : b` is (C11 6.5.15).
 ///
-/// Of two pointers that are neither null pointer constants nor `void *` it has the first's type. The part that isn't chosen needs no value, though it must be a constant for the whole to be one.
+/// Of two pointers that are neither null pointer constants nor `void *`, nor point to one struct or union, it is a pointer to an unknown type. The part that isn't chosen needs no value, though it must be a constant for the whole to be one.
 pub fn conditional_of(alloc: Global, condition: Value, a: Value, b: Value) -> Result<Value, TypeEnd>
     ensures { Gives result (conditional_of condition a b) }
 {
@@ -102,14 +123,10 @@ pub fn conditional_of(alloc: Global, condition: Value, a: Value, b: Value) -> Re
     let a = operand_of(alloc, a)?;
     let b = operand_of(alloc, b)?;
     let constant = selected(condition, a.constant, b.constant);
-    match chosen_type(a, b) {
-        Some(scalar) => {
-            let constant = selected_as(&scalar, constant);
-            Ok(Value {
-                ctype: scalar.ctype(),
-                constant,
-            })
-        }
-        None => Err(TypeEnd::NoType),
-    }
+    let scalar = chosen_type(alloc, a, b)?;
+    let constant = selected_as(&scalar, constant);
+    Ok(Value {
+        ctype: scalar.ctype(),
+        constant,
+    })
 }

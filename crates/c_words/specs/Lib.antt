@@ -1,3 +1,4 @@
 pub mod Spellings
 pub mod File
+pub mod Pragma
 pub mod Words

@@ -9,6 +9,7 @@ use Rattle.c_words.specs.declared.word.Word.TheVariants as words
 use Rattle.c_words.specs.declared.punct.Punct.TheVariants.{OpenParen}
 use Rattle.c_words.specs.Spellings.{name_word, punct_of}
 use Rattle.c_words.specs.File.{File}
+use Rattle.c_words.specs.Pragma.{pack_of}
 
 -- a string literal begins with its quote, or with a prefix
 abbrev pub text_word : List ℕ → Word
@@ -75,9 +76,10 @@ past_group file i = if nat_lt i (length file.tokens) then unwrap_or (closer_of f
 unfoldable pub behind_asm_label : File → ℕ → ℕ
 behind_asm_label file i = if opens_label (word_at file i) (word_at file (i + 1)) then past_group file (i + 1) else i
 
--- What a source has found: each token's word, and what closes each bracket.
-pub record IsRead (text : List ℕ) (tokens : List Token) (words : List Word) (closers : List (Option ℕ)) : Type 0 where
+-- What a source has found: each token's word, what closes each bracket, and the first `#pragma pack`.
+pub record IsRead (text : List ℕ) (tokens : List Token) (words : List Word) (closers : List (Option ℕ)) (pack : Option ℕ) : Type 0 where
   pub short : length text < 4294967296
   pub few : length tokens < 4294967296
   pub each_word : words ≡ map (word_of text) tokens
   pub each_closer : AreClosers text tokens closers
+  pub first_pack : pack ≡ pack_of text

@@ -3,8 +3,10 @@
 ghost use Rattle.std.specs.Prelude.{◌≡◌, ◌≢◌, ◌<◌, ◌≤◌, length, slice_get, IfOk, IfSome};
 ghost use Rattle.c_words.specs.declared.word.Word.TheVariants.{Missing};
 ghost use Rattle.c_words.specs.File.{file_of};
+ghost use Rattle.c_words.specs.Pragma.{is_packed};
 ghost use Rattle.c_words.specs.Words.{word_at, is_name_at, is_name_word, bytes_at, start_at, end_at, closer_of, past_group, behind_asm_label};
 
+use crate::pragma::pack_of;
 use crate::token_word::{bytes_of, words_of};
 use crate::{Punct, Word};
 use asm_core::{Items, Memory};
@@ -12,7 +14,8 @@ use c_tokens::{Token, Tokens, closers};
 use std::alloc::Global;
 use std::marker::Model;
 
-/// A file's tokens by their index, with what each is to the grammar and what closes each bracket, found once in one pass.
+/// A file's tokens by their index, with what each is to the grammar, what closes each bracket, and where layouts begin to be
+/// unknown, found once.
 /// Contracts see the text and its tokens. Past the last token there is none, which every call answers in its way.
 #[derive(Debug, Drop)]
 pub struct Source<'a> {
@@ -20,6 +23,7 @@ pub struct Source<'a> {
     tokens: &'a Tokens,
     words: Items<Word>,
     closers: Items<Option<u32>>,
+    pack: Option<u32>,
 }
 
 impl<'a> Model for Source<'a> {
@@ -30,7 +34,7 @@ impl<'a> Model for Source<'a> {
 
     ghost view = { λ s. record { text = s.text.now; tokens = s.tokens.now.list } };
 
-    ghost invariant = { λ s. IsRead s.text.now s.tokens.now.list s.words s.closers };
+    ghost invariant = { λ s. IsRead s.text.now s.tokens.now.list s.words s.closers s.pack };
 }
 
 impl<'a> Source<'a> {
@@ -47,6 +51,7 @@ impl<'a> Source<'a> {
             tokens,
             words,
             closers,
+            pack: pack_of(text),
         })
     }
 
@@ -55,6 +60,16 @@ impl<'a> Source<'a> {
         ensures { result.now ≡ self.now.text }
     {
         self.text
+    }
+
+    /// Whether a `#pragma pack` stands before the offset, so that how structs lie isn't known there.
+    pub fn is_packed(&self, place: u32) -> bool
+        ensures { result ≡ is_packed self.now place }
+    {
+        match self.pack {
+            Some(pack) => pack < place,
+            None => false,
+        }
     }
 
     /// The tokens, from left to right.

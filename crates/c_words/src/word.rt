@@ -47,7 +47,7 @@ pub enum Word {
     VaList,
     Tag(TagWord),
     Typeof,
-    /// `__attribute__`.
+    /// `__attribute__`, `__attribute`.
     Attribute,
     Asm,
     Sizeof,
