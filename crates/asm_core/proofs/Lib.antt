@@ -7,6 +7,7 @@ pub mod DecideLaws
 pub mod EndLaws
 pub mod FactLaws
 pub mod FlagLaws
+mod FlagPuts
 pub mod Keeping
 pub mod LastWrites
 pub mod Laws

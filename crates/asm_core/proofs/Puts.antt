@@ -1,19 +1,16 @@
 -- A value that is put at a destination changes nothing else.
-use Rattle.std.proofs.Common.{◌≡◌, ◌≢◌, ◌⊎◌, inl, inr, ⊎_elim, ℕ, zero, suc, ◌+◌, ◌-◌, ◌*◌, ◌/◌, ◌%◌, ◌^◌, ◌==◌, ◌≤◌, nat_le, nat_lt, ◌&&◌, List, [], ◌∷◌, length, slice_index, slice_set, Bool, true, false, if◌then◌else◌, refl, ap, ap₂, sym, ◌∙◌, subst, arith}
+use Rattle.std.proofs.Common.{◌≡◌, ◌≢◌, ◌⊎◌, inl, inr, ⊎_elim, ℕ, zero, suc, ◌+◌, ◌-◌, ◌*◌, ◌/◌, ◌%◌, ◌^◌, ◌≤◌, nat_le, nat_lt, ◌&&◌, List, [], ◌∷◌, length, slice_index, slice_set, Bool, true, false, if◌then◌else◌, refl, ap, ap₂, sym, ◌∙◌, subst, arith}
 use Rattle.std.proofs.lemmas.List.{length-set, get_or-set_other}
 use Rattle.std.proofs.lemmas.Bool.{leb-true, and_parts}
 use Rattle.asm_core.specs.Reg.{reg_number}
-use Rattle.asm_core.specs.Flag.{flag_in, with_flag}
 use Rattle.asm_core.specs.Function.{bit}
 use Rattle.asm_core.specs.Machine.{reg_in, with_reg, covers, byte_at, layout_of, layouts_of}
 use Rattle.asm_core.specs.Memory.{put_byte, with_byte, with_word, with_scratch_word}
 use Rattle.asm_core.specs.MicroOps.{first_of, count_of, with_part, pushed, put, put_all}
 use Rattle.asm_core.specs.RowLaws.{Component, component_in, byte_of, IsAmong, LiesAt, IsHit, IsHitByOne}
+use Rattle.asm_core.proofs.FlagPuts.{other_flag_kept}
 use Rattle.asm_core.proofs.RegisterLaws.{same_reg}
 use Rattle.asm_core.specs.declared.reg.Reg.{Reg}
-use Rattle.asm_core.specs.declared.flag.Flag.{Flag}
-use Rattle.asm_core.specs.declared.flag.FlagSet.{FlagSet}
-use Rattle.asm_core.specs.declared.flag.Flag.TheVariants.{Cf, Pf, Af, Zf, Sf, Of, Df}
 use Rattle.asm_core.specs.declared.inst.Width.{Width}
 use Rattle.asm_core.specs.declared.micro_op.Bytes.{Bytes}
 use Rattle.asm_core.specs.declared.micro_op.Destination.{Destination}
@@ -91,186 +88,6 @@ module _ (r : Reg) (bytes : Bytes) (v : ℕ) (m : Machine) where
 
       other : (r ≡ q → ⊥) → byte_of j (reg_in q (with_reg r (with_part bytes v (reg_in r m)) m)) ≡ byte_of j (reg_in q m)
       other apart = ap (byte_of j) (get_or-set_other m.regs (reg_number r) (reg_number q) (with_part bytes v (reg_in r m)) 0 (λ e. apart (sym (same_reg q r e))))
-
--- ---- flags
-
-bit_Cf_Pf : (v n : ℕ) → (n / 2 * 2 + v % 2 * 1 + n % 1) / 2 % 2 ≡ n / 2 % 2
-bit_Cf_Pf v n = omega arith
-
-bit_Cf_Af : (v n : ℕ) → (n / 2 * 2 + v % 2 * 1 + n % 1) / 4 % 2 ≡ n / 4 % 2
-bit_Cf_Af v n = omega arith
-
-bit_Cf_Zf : (v n : ℕ) → (n / 2 * 2 + v % 2 * 1 + n % 1) / 8 % 2 ≡ n / 8 % 2
-bit_Cf_Zf v n = omega arith
-
-bit_Cf_Sf : (v n : ℕ) → (n / 2 * 2 + v % 2 * 1 + n % 1) / 16 % 2 ≡ n / 16 % 2
-bit_Cf_Sf v n = omega arith
-
-bit_Cf_Of : (v n : ℕ) → (n / 2 * 2 + v % 2 * 1 + n % 1) / 32 % 2 ≡ n / 32 % 2
-bit_Cf_Of v n = omega arith
-
-bit_Cf_Df : (v n : ℕ) → (n / 2 * 2 + v % 2 * 1 + n % 1) / 64 % 2 ≡ n / 64 % 2
-bit_Cf_Df v n = omega arith
-
-bit_Pf_Cf : (v n : ℕ) → (n / 4 * 4 + v % 2 * 2 + n % 2) / 1 % 2 ≡ n / 1 % 2
-bit_Pf_Cf v n = omega arith
-
-bit_Pf_Af : (v n : ℕ) → (n / 4 * 4 + v % 2 * 2 + n % 2) / 4 % 2 ≡ n / 4 % 2
-bit_Pf_Af v n = omega arith
-
-bit_Pf_Zf : (v n : ℕ) → (n / 4 * 4 + v % 2 * 2 + n % 2) / 8 % 2 ≡ n / 8 % 2
-bit_Pf_Zf v n = omega arith
-
-bit_Pf_Sf : (v n : ℕ) → (n / 4 * 4 + v % 2 * 2 + n % 2) / 16 % 2 ≡ n / 16 % 2
-bit_Pf_Sf v n = omega arith
-
-bit_Pf_Of : (v n : ℕ) → (n / 4 * 4 + v % 2 * 2 + n % 2) / 32 % 2 ≡ n / 32 % 2
-bit_Pf_Of v n = omega arith
-
-bit_Pf_Df : (v n : ℕ) → (n / 4 * 4 + v % 2 * 2 + n % 2) / 64 % 2 ≡ n / 64 % 2
-bit_Pf_Df v n = omega arith
-
-bit_Af_Cf : (v n : ℕ) → (n / 8 * 8 + v % 2 * 4 + n % 4) / 1 % 2 ≡ n / 1 % 2
-bit_Af_Cf v n = omega arith
-
-bit_Af_Pf : (v n : ℕ) → (n / 8 * 8 + v % 2 * 4 + n % 4) / 2 % 2 ≡ n / 2 % 2
-bit_Af_Pf v n = omega arith
-
-bit_Af_Zf : (v n : ℕ) → (n / 8 * 8 + v % 2 * 4 + n % 4) / 8 % 2 ≡ n / 8 % 2
-bit_Af_Zf v n = omega arith
-
-bit_Af_Sf : (v n : ℕ) → (n / 8 * 8 + v % 2 * 4 + n % 4) / 16 % 2 ≡ n / 16 % 2
-bit_Af_Sf v n = omega arith
-
-bit_Af_Of : (v n : ℕ) → (n / 8 * 8 + v % 2 * 4 + n % 4) / 32 % 2 ≡ n / 32 % 2
-bit_Af_Of v n = omega arith
-
-bit_Af_Df : (v n : ℕ) → (n / 8 * 8 + v % 2 * 4 + n % 4) / 64 % 2 ≡ n / 64 % 2
-bit_Af_Df v n = omega arith
-
-bit_Zf_Cf : (v n : ℕ) → (n / 16 * 16 + v % 2 * 8 + n % 8) / 1 % 2 ≡ n / 1 % 2
-bit_Zf_Cf v n = omega arith
-
-bit_Zf_Pf : (v n : ℕ) → (n / 16 * 16 + v % 2 * 8 + n % 8) / 2 % 2 ≡ n / 2 % 2
-bit_Zf_Pf v n = omega arith
-
-bit_Zf_Af : (v n : ℕ) → (n / 16 * 16 + v % 2 * 8 + n % 8) / 4 % 2 ≡ n / 4 % 2
-bit_Zf_Af v n = omega arith
-
-bit_Zf_Sf : (v n : ℕ) → (n / 16 * 16 + v % 2 * 8 + n % 8) / 16 % 2 ≡ n / 16 % 2
-bit_Zf_Sf v n = omega arith
-
-bit_Zf_Of : (v n : ℕ) → (n / 16 * 16 + v % 2 * 8 + n % 8) / 32 % 2 ≡ n / 32 % 2
-bit_Zf_Of v n = omega arith
-
-bit_Zf_Df : (v n : ℕ) → (n / 16 * 16 + v % 2 * 8 + n % 8) / 64 % 2 ≡ n / 64 % 2
-bit_Zf_Df v n = omega arith
-
-bit_Sf_Cf : (v n : ℕ) → (n / 32 * 32 + v % 2 * 16 + n % 16) / 1 % 2 ≡ n / 1 % 2
-bit_Sf_Cf v n = omega arith
-
-bit_Sf_Pf : (v n : ℕ) → (n / 32 * 32 + v % 2 * 16 + n % 16) / 2 % 2 ≡ n / 2 % 2
-bit_Sf_Pf v n = omega arith
-
-bit_Sf_Af : (v n : ℕ) → (n / 32 * 32 + v % 2 * 16 + n % 16) / 4 % 2 ≡ n / 4 % 2
-bit_Sf_Af v n = omega arith
-
-bit_Sf_Zf : (v n : ℕ) → (n / 32 * 32 + v % 2 * 16 + n % 16) / 8 % 2 ≡ n / 8 % 2
-bit_Sf_Zf v n = omega arith
-
-bit_Sf_Of : (v n : ℕ) → (n / 32 * 32 + v % 2 * 16 + n % 16) / 32 % 2 ≡ n / 32 % 2
-bit_Sf_Of v n = omega arith
-
-bit_Sf_Df : (v n : ℕ) → (n / 32 * 32 + v % 2 * 16 + n % 16) / 64 % 2 ≡ n / 64 % 2
-bit_Sf_Df v n = omega arith
-
-bit_Of_Cf : (v n : ℕ) → (n / 64 * 64 + v % 2 * 32 + n % 32) / 1 % 2 ≡ n / 1 % 2
-bit_Of_Cf v n = omega arith
-
-bit_Of_Pf : (v n : ℕ) → (n / 64 * 64 + v % 2 * 32 + n % 32) / 2 % 2 ≡ n / 2 % 2
-bit_Of_Pf v n = omega arith
-
-bit_Of_Af : (v n : ℕ) → (n / 64 * 64 + v % 2 * 32 + n % 32) / 4 % 2 ≡ n / 4 % 2
-bit_Of_Af v n = omega arith
-
-bit_Of_Zf : (v n : ℕ) → (n / 64 * 64 + v % 2 * 32 + n % 32) / 8 % 2 ≡ n / 8 % 2
-bit_Of_Zf v n = omega arith
-
-bit_Of_Sf : (v n : ℕ) → (n / 64 * 64 + v % 2 * 32 + n % 32) / 16 % 2 ≡ n / 16 % 2
-bit_Of_Sf v n = omega arith
-
-bit_Of_Df : (v n : ℕ) → (n / 64 * 64 + v % 2 * 32 + n % 32) / 64 % 2 ≡ n / 64 % 2
-bit_Of_Df v n = omega arith
-
-bit_Df_Cf : (v n : ℕ) → (n / 128 * 128 + v % 2 * 64 + n % 64) / 1 % 2 ≡ n / 1 % 2
-bit_Df_Cf v n = omega arith
-
-bit_Df_Pf : (v n : ℕ) → (n / 128 * 128 + v % 2 * 64 + n % 64) / 2 % 2 ≡ n / 2 % 2
-bit_Df_Pf v n = omega arith
-
-bit_Df_Af : (v n : ℕ) → (n / 128 * 128 + v % 2 * 64 + n % 64) / 4 % 2 ≡ n / 4 % 2
-bit_Df_Af v n = omega arith
-
-bit_Df_Zf : (v n : ℕ) → (n / 128 * 128 + v % 2 * 64 + n % 64) / 8 % 2 ≡ n / 8 % 2
-bit_Df_Zf v n = omega arith
-
-bit_Df_Sf : (v n : ℕ) → (n / 128 * 128 + v % 2 * 64 + n % 64) / 16 % 2 ≡ n / 16 % 2
-bit_Df_Sf v n = omega arith
-
-bit_Df_Of : (v n : ℕ) → (n / 128 * 128 + v % 2 * 64 + n % 64) / 32 % 2 ≡ n / 32 % 2
-bit_Df_Of v n = omega arith
-
--- a flag leaves the others
-pub other_flag_kept : (f g : Flag) (v : ℕ) (s : FlagSet) → (f ≡ g → ⊥) → flag_in g (with_flag f v s) ≡ flag_in g s
-other_flag_kept Cf Cf v s apart = absurd (apart refl)
-other_flag_kept Cf Pf v s apart = ap (λ n. n == 1) (bit_Cf_Pf v s.0)
-other_flag_kept Cf Af v s apart = ap (λ n. n == 1) (bit_Cf_Af v s.0)
-other_flag_kept Cf Zf v s apart = ap (λ n. n == 1) (bit_Cf_Zf v s.0)
-other_flag_kept Cf Sf v s apart = ap (λ n. n == 1) (bit_Cf_Sf v s.0)
-other_flag_kept Cf Of v s apart = ap (λ n. n == 1) (bit_Cf_Of v s.0)
-other_flag_kept Cf Df v s apart = ap (λ n. n == 1) (bit_Cf_Df v s.0)
-other_flag_kept Pf Cf v s apart = ap (λ n. n == 1) (bit_Pf_Cf v s.0)
-other_flag_kept Pf Pf v s apart = absurd (apart refl)
-other_flag_kept Pf Af v s apart = ap (λ n. n == 1) (bit_Pf_Af v s.0)
-other_flag_kept Pf Zf v s apart = ap (λ n. n == 1) (bit_Pf_Zf v s.0)
-other_flag_kept Pf Sf v s apart = ap (λ n. n == 1) (bit_Pf_Sf v s.0)
-other_flag_kept Pf Of v s apart = ap (λ n. n == 1) (bit_Pf_Of v s.0)
-other_flag_kept Pf Df v s apart = ap (λ n. n == 1) (bit_Pf_Df v s.0)
-other_flag_kept Af Cf v s apart = ap (λ n. n == 1) (bit_Af_Cf v s.0)
-other_flag_kept Af Pf v s apart = ap (λ n. n == 1) (bit_Af_Pf v s.0)
-other_flag_kept Af Af v s apart = absurd (apart refl)
-other_flag_kept Af Zf v s apart = ap (λ n. n == 1) (bit_Af_Zf v s.0)
-other_flag_kept Af Sf v s apart = ap (λ n. n == 1) (bit_Af_Sf v s.0)
-other_flag_kept Af Of v s apart = ap (λ n. n == 1) (bit_Af_Of v s.0)
-other_flag_kept Af Df v s apart = ap (λ n. n == 1) (bit_Af_Df v s.0)
-other_flag_kept Zf Cf v s apart = ap (λ n. n == 1) (bit_Zf_Cf v s.0)
-other_flag_kept Zf Pf v s apart = ap (λ n. n == 1) (bit_Zf_Pf v s.0)
-other_flag_kept Zf Af v s apart = ap (λ n. n == 1) (bit_Zf_Af v s.0)
-other_flag_kept Zf Zf v s apart = absurd (apart refl)
-other_flag_kept Zf Sf v s apart = ap (λ n. n == 1) (bit_Zf_Sf v s.0)
-other_flag_kept Zf Of v s apart = ap (λ n. n == 1) (bit_Zf_Of v s.0)
-other_flag_kept Zf Df v s apart = ap (λ n. n == 1) (bit_Zf_Df v s.0)
-other_flag_kept Sf Cf v s apart = ap (λ n. n == 1) (bit_Sf_Cf v s.0)
-other_flag_kept Sf Pf v s apart = ap (λ n. n == 1) (bit_Sf_Pf v s.0)
-other_flag_kept Sf Af v s apart = ap (λ n. n == 1) (bit_Sf_Af v s.0)
-other_flag_kept Sf Zf v s apart = ap (λ n. n == 1) (bit_Sf_Zf v s.0)
-other_flag_kept Sf Sf v s apart = absurd (apart refl)
-other_flag_kept Sf Of v s apart = ap (λ n. n == 1) (bit_Sf_Of v s.0)
-other_flag_kept Sf Df v s apart = ap (λ n. n == 1) (bit_Sf_Df v s.0)
-other_flag_kept Of Cf v s apart = ap (λ n. n == 1) (bit_Of_Cf v s.0)
-other_flag_kept Of Pf v s apart = ap (λ n. n == 1) (bit_Of_Pf v s.0)
-other_flag_kept Of Af v s apart = ap (λ n. n == 1) (bit_Of_Af v s.0)
-other_flag_kept Of Zf v s apart = ap (λ n. n == 1) (bit_Of_Zf v s.0)
-other_flag_kept Of Sf v s apart = ap (λ n. n == 1) (bit_Of_Sf v s.0)
-other_flag_kept Of Of v s apart = absurd (apart refl)
-other_flag_kept Of Df v s apart = ap (λ n. n == 1) (bit_Of_Df v s.0)
-other_flag_kept Df Cf v s apart = ap (λ n. n == 1) (bit_Df_Cf v s.0)
-other_flag_kept Df Pf v s apart = ap (λ n. n == 1) (bit_Df_Pf v s.0)
-other_flag_kept Df Af v s apart = ap (λ n. n == 1) (bit_Df_Af v s.0)
-other_flag_kept Df Zf v s apart = ap (λ n. n == 1) (bit_Df_Zf v s.0)
-other_flag_kept Df Sf v s apart = ap (λ n. n == 1) (bit_Df_Sf v s.0)
-other_flag_kept Df Of v s apart = ap (λ n. n == 1) (bit_Df_Of v s.0)
-other_flag_kept Df Df v s apart = absurd (apart refl)
 
 -- ---- memory
 

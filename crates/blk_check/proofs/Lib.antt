@@ -1,3 +1,4 @@
+pub mod AcceptedLaws
 pub mod AgreementLaws
 pub mod LiveLaws
 mod PieceLaws
