@@ -113,8 +113,22 @@ def build_compared(build):
     absent = build.compiled("table.c", "@options.txt", asmck="/absent/asmck")
     others += wrong("no asmck", len(absent) != 2 or "there is no /absent/asmck" not in absent[0], *absent)
     others += wrong("no compiler", build.run("asmck-cc", "/absent/gcc", "-c", "table.c").returncode != 127)
+    others += wrong("dependencies by -Wp", written_by(build, "asmck-cc") != written_by(build, None))
     asked = build.run("asmck-cc", "gcc", "-dumpversion")
     return others + wrong("no source", (asked.returncode, asked.stderr) != (0, ""))
+
+
+def written_by(build, wrapper):
+    """What a call, through the wrapper where one is given, writes as its dependencies where its preprocessor is told."""
+    file = build.folder / "dependencies"
+    words = ["gcc", "@options.txt", "-Wp,-MMD,dependencies", "-S", "second.c", "-o", "second.s"]
+    if wrapper:
+        build.run(wrapper, *words)
+    else:
+        subprocess.run(words, cwd=build.folder, capture_output=True)
+    text = file.read_text()
+    file.unlink()
+    return text
 
 
 def run_compared(build):

@@ -18,7 +18,8 @@ OUTPUT_PREFIXES = ("-save-temps", "--save-temps", "-fdeps-")
 # With these nothing is compiled.
 COMPILES_NOTHING = {"-E", "-M", "-MM", "--version", "-###"}
 # What a source is, by its ending: C, or C that is preprocessed already (GCC manual, "Overall Options").
-LANGUAGES = {".c": "c", ".i": "cpp-output"}
+PREPROCESSED = "cpp-output"
+LANGUAGES = {".c": "c", ".i": PREPROCESSED}
 RESPONSE_DEPTH = 10
 
 
@@ -28,6 +29,7 @@ class Source:
     language: str
 
     def is_c_file(self):
+        """Whether it is a file in C; `-` is the standard input."""
         return self.language in LANGUAGES.values() and self.path != "-"
 
 

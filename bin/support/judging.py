@@ -2,6 +2,7 @@
 import os
 import pathlib
 import re
+import shutil
 import subprocess
 import tempfile
 from collections import Counter
@@ -9,6 +10,7 @@ from dataclasses import dataclass
 from functools import cached_property, lru_cache
 
 from support import program, report
+from support.command import PREPROCESSED
 from support.tokens import ENCODING, text_of
 from support.unit import Place, Unit
 from support.written import written
@@ -75,7 +77,7 @@ def judged(call, source, folder, judge):
     try:
         with tempfile.TemporaryDirectory(prefix="asmck-") as name:
             output = pathlib.Path(name, program.NAME)
-            preprocess(call.preprocessing(source, output), folder)
+            preprocess(call, source, folder, output)
             unit = Unit(text_of(output), start)
             if "asm" not in unit.text:
                 return Judged(start.path)
@@ -108,8 +110,12 @@ def run(words, folder):
     )
 
 
-def preprocess(words, folder):
-    done = run(words, folder)
+def preprocess(call, source, folder, output):
+    """Writes the source as the compiler reads it into the file `output`."""
+    if source.language == PREPROCESSED:
+        shutil.copyfile(os.path.join(folder, source.path), output)
+        return
+    done = run(call.preprocessing(source, output), folder)
     if done.returncode:
         said = (line for line in done.stderr.splitlines() if "error:" in line)
         raise Fault(f"cannot be preprocessed: {next(said, f'status {done.returncode}')}", program.READ_FAULT)
