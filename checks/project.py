@@ -140,7 +140,7 @@ def run_compared(build):
     others += told("patch", build.judged("--patch"))
     (build.answers / "no-patch").touch()
     lines = build.judged("--patch", "second.c")
-    others += wrong("no patch", "asmck-run: this asmck has no `patch`: nothing is patched" not in lines, *lines)
+    others += wrong("no patch", "this asmck has no `patch`" not in lines, *lines)
     (build.answers / "no-patch").unlink()
     others += wrong("a source of no database", build.judged("other.c")[-1] != "status 4")
     return others + wrong("no database", build.judged("-p", "/absent")[-1] != "status 4")

@@ -100,14 +100,15 @@ def is_for_i386(call, folder):
 @lru_cache(maxsize=None)
 def macros(target, folder):
     """The lines with the macros that a compiler defines."""
-    return frozenset(run([*target, "-E", "-dM", "-x", "c", os.devnull], folder).stdout.splitlines())
+    _, printed, _ = run([*target, "-E", "-dM", "-x", "c", os.devnull], folder)
+    return frozenset(printed.splitlines())
 
 
 def run(words, folder):
+    """The status of a call of the compiler, what it printed, and what it said."""
     environment = {name: value for name, value in os.environ.items() if name not in DEPENDENCIES}
-    return subprocess.run(
-        words, cwd=folder, env=environment, stdin=subprocess.DEVNULL, capture_output=True, encoding=ENCODING
-    )
+    done = subprocess.run(words, cwd=folder, env=environment, stdin=subprocess.DEVNULL, capture_output=True)
+    return done.returncode, os.fsdecode(done.stdout), os.fsdecode(done.stderr)
 
 
 def preprocess(call, source, folder, output):
@@ -115,10 +116,10 @@ def preprocess(call, source, folder, output):
     if source.language == PREPROCESSED:
         shutil.copyfile(os.path.join(folder, source.path), output)
         return
-    done = run(call.preprocessing(source, output), folder)
-    if done.returncode:
-        said = (line for line in done.stderr.splitlines() if "error:" in line)
-        raise Fault(f"cannot be preprocessed: {next(said, f'status {done.returncode}')}", program.READ_FAULT)
+    status, _, said = run(call.preprocessing(source, output), folder)
+    if status:
+        errors = (line for line in said.splitlines() if "error:" in line)
+        raise Fault(f"cannot be preprocessed: {next(errors, f'status {status}')}", program.READ_FAULT)
 
 
 def checked(asmck, unit, scratch):
@@ -157,4 +158,4 @@ def mark_text(unit, verdict):
     if not verdict.undecided:
         return ""
     begin = unit.offset(verdict.undecided.line, verdict.undecided.column)
-    return MARKED.match(unit.text, begin)[0].strip()
+    return os.fsdecode(MARKED.match(unit.text, begin)[0].strip().encode(ENCODING))

@@ -6,7 +6,6 @@ from collections import defaultdict
 from dataclasses import dataclass
 
 from support import program, report
-from support.judging import Fault
 from support.tokens import ENCODING, statement, text_of
 from support.unit import source_text
 
@@ -41,7 +40,11 @@ class Edit:
 
 
 class NoPatch(Exception):
-    """This asmck has no `patch`."""
+    """Why a source isn't patched; `is_unknown` tells that this asmck has no `patch` at all."""
+
+    def __init__(self, status):
+        super().__init__(program.FAULTS[status])
+        self.is_unknown = status == program.USAGE
 
 
 def mended(asmck, unit, scratch, verdicts):
@@ -49,10 +52,8 @@ def mended(asmck, unit, scratch, verdicts):
     if not any(it.findings for it in verdicts):
         return {}
     answer = asmck.patch(scratch)
-    if answer.status == program.USAGE:
-        raise NoPatch
     if answer.status in program.FAULTS:
-        raise Fault(program.FAULTS[answer.status], answer.status)
+        raise NoPatch(answer.status)
     return mends(unit, verdicts, report.patched(answer.lines), text_of(scratch / program.PATCHED))
 
 
@@ -92,7 +93,7 @@ def edits(statement):
 
 @dataclass
 class Patches:
-    """The edits of each source, and a line for each statement whose patch can't be brought there."""
+    """The edits of each source by its path, and the statements whose patch can't be brought there, each with why."""
 
     edits: dict
     unmapped: list
