@@ -1,6 +1,6 @@
 """A compiler's call as its words say it: what it compiles, and how to preprocess that alone."""
-import pathlib
-from dataclasses import dataclass
+import os
+from typing import NamedTuple
 
 # Programs that run the compiler that follows them.
 LAUNCHERS = {"ccache", "distcc", "icecc", "sccache"}
@@ -23,8 +23,7 @@ LANGUAGES = {".c": "c", ".i": PREPROCESSED}
 RESPONSE_DEPTH = 10
 
 
-@dataclass(frozen=True)
-class Source:
+class Source(NamedTuple):
     path: str
     language: str
 
@@ -33,18 +32,17 @@ class Source:
         return self.language in LANGUAGES.values() and self.path != "-"
 
 
-@dataclass(frozen=True)
-class Call:
+class Call(NamedTuple):
     """A call of a compiler: its program, the options that preprocessing shares, and the C sources that it compiles."""
 
     compiler: str
     options: tuple[tuple[str, ...], ...]
     sources: tuple[Source, ...]
 
-    def preprocessing(self, source, output):
-        """The words that preprocess the source into the file `output`, and write nothing else."""
+    def preprocessing(self, source):
+        """The words that print the source preprocessed, and write nothing else."""
         options = (word for option in self.options for word in option)
-        return [self.compiler, *options, "-w", "-E", "-x", source.language, source.path, "-o", str(output)]
+        return [self.compiler, *options, "-w", "-E", "-x", source.language, source.path]
 
     def target(self):
         """The compiler and the options that say for which machine it compiles."""
@@ -55,10 +53,10 @@ class Call:
 def read_call(words, folder):
     """What the call says that runs in the folder. Its sources are those in C."""
     words = list(words)
-    while len(words) > 1 and pathlib.PurePath(words[0]).name in LAUNCHERS:
+    while len(words) > 1 and os.path.basename(words[0]) in LAUNCHERS:
         words.pop(0)
     compiler, *rest = words
-    language = "c++" if pathlib.PurePath(compiler).name.endswith("++") else None
+    language = "c++" if compiler.endswith("++") else None
     options, preprocessor, sources, compiles = [], [], [], True
     rest = expanded(rest, folder)
     for word in rest:
@@ -75,7 +73,7 @@ def read_call(words, folder):
         elif word.startswith("-") and word != "-":
             options.append((word, *argument))
         else:
-            sources.append(Source(word, language or LANGUAGES.get(pathlib.PurePath(word).suffix, "")))
+            sources.append(Source(word, language or LANGUAGES.get(os.path.splitext(word)[1], "")))
     for word in without_dependencies(preprocessor):
         options.append(("-Xpreprocessor", word))
     return Call(compiler, tuple(options), tuple(it for it in sources if compiles and it.is_c_file()))
@@ -103,10 +101,10 @@ def without_dependencies(words):
 def expanded(words, folder, depth=RESPONSE_DEPTH):
     """The words with those of response files in place of each `@FILE`; a file that isn't there stands for itself."""
     for word in words:
-        file = pathlib.Path(folder, word[1:])
-        if word.startswith("@") and depth and file.is_file():
-            text = file.read_text(errors="surrogateescape")
-            yield from expanded(response_words(text), folder, depth - 1)
+        file = os.path.join(folder, word[1:])
+        if word.startswith("@") and depth and os.path.isfile(file):
+            with open(file, errors="surrogateescape") as words_of_file:
+                yield from expanded(response_words(words_of_file.read()), folder, depth - 1)
         else:
             yield word
 

@@ -6,6 +6,7 @@ from collections import defaultdict
 from dataclasses import dataclass
 
 from support import program, report
+from support.status import FAULTS, USAGE
 from support.tokens import ENCODING, statement, text_of
 from support.unit import source_text
 
@@ -43,8 +44,8 @@ class NoPatch(Exception):
     """Why a source isn't patched; `is_unknown` tells that this asmck has no `patch` at all."""
 
     def __init__(self, status):
-        super().__init__(program.FAULTS[status])
-        self.is_unknown = status == program.USAGE
+        super().__init__(FAULTS[status])
+        self.is_unknown = status == USAGE
 
 
 def mended(asmck, unit, scratch, verdicts):
@@ -52,7 +53,7 @@ def mended(asmck, unit, scratch, verdicts):
     if not any(it.findings for it in verdicts):
         return {}
     answer = asmck.patch(scratch)
-    if answer.status in program.FAULTS:
+    if answer.status in FAULTS:
         raise NoPatch(answer.status)
     return mends(unit, verdicts, report.patched(answer.lines), text_of(scratch / program.PATCHED))
 

@@ -4,6 +4,8 @@ import pathlib
 import subprocess
 from dataclasses import dataclass
 
+from support.status import MEMORY, Fault
+
 BIN = pathlib.Path(__file__).resolve().parent.parent
 BUILT = BIN.parent / "crates/asmck/out/asmck"
 RULES = BIN.parent / "docs/RULES.md"
@@ -11,16 +13,6 @@ RULES = BIN.parent / "docs/RULES.md"
 NAME = "unit.i"
 PATCHED = "patched.i"
 SECONDS = 120
-# asmck's statuses (README, "Use").
-DONE, BROKEN, USAGE, UNDECIDED, READ_FAULT, WRITE_FAULT, BAD_TEXT, TOO_LARGE, MEMORY = range(9)
-FAULTS = {
-    USAGE: "asmck doesn't know these words",
-    READ_FAULT: "asmck can't read it",
-    WRITE_FAULT: "asmck can't write its answer",
-    BAD_TEXT: "no text of C tokens",
-    TOO_LARGE: "too large",
-    MEMORY: "memory ran out",
-}
 
 
 class NoProgram(Exception):
@@ -49,8 +41,12 @@ class Asmck:
         return self.answer(folder, "patch", *self.words, NAME, PATCHED)
 
     def answer(self, folder, *words):
-        command = [self.program, *words]
-        done = subprocess.run(command, cwd=folder, stdin=subprocess.DEVNULL, capture_output=True, timeout=SECONDS)
+        try:
+            done = subprocess.run(
+                [self.program, *words], cwd=folder, stdin=subprocess.DEVNULL, capture_output=True, timeout=SECONDS
+            )
+        except subprocess.TimeoutExpired:
+            raise Fault(f"asmck takes more than {SECONDS} s", MEMORY) from None
         lines = done.stdout.decode("latin-1").splitlines()
         # A program that a signal ends has a negative status here: that is no answer of asmck's.
         return Answer(tuple(lines), done.returncode if done.returncode in range(9) else MEMORY)
