@@ -119,7 +119,7 @@ def build_compared(build):
 
 
 def written_by(build, wrapper):
-    """What a call, through the wrapper where one is given, writes as its dependencies where its preprocessor is told."""
+    """What a call, through the wrapper where one is given, writes as dependencies where the preprocessor is told to."""
     file = build.folder / "dependencies"
     words = ["gcc", "@options.txt", "-Wp,-MMD,dependencies", "-S", "second.c", "-o", "second.s"]
     if wrapper:

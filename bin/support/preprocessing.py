@@ -19,7 +19,7 @@ def run(words, folder):
 
 
 def preprocessed(call, source, folder):
-    """The bytes of the source of the call, which runs in the folder, as the compiler reads it behind its preprocessor."""
+    """The bytes of the source of the call, which runs in the folder, as they are behind the preprocessor."""
     if source.language == PREPROCESSED:
         with open(os.path.join(folder, source.path), "rb") as file:
             return file.read()
