@@ -2,6 +2,7 @@
 -- that an operand
 -- has of its own.
 use Rattle.std.proofs.Common.{◌≡◌, ℕ, zero, suc, ℤ, not, cond, is_none, eq-eqb, ◌==◌, ◌+◌, ◌&&◌, ◌≤◌, All, List, [], ◌∷◌, length, map, drop, Bool, true, false, Option, None, Some, Ok, refl, ap, sym, subst, ◌∙◌, slice_get, arith}
+use Rattle.std.proofs.lemmas.Bool.{and_from}
 use Rattle.std.proofs.lemmas.List.{length-map}
 use Rattle.std.proofs.lemmas.List.Elements.{All-nil, All-cons}
 use Rattle.std.specs.List.{list_all}
@@ -14,6 +15,7 @@ use Rattle.asm_core.specs.Reading.Facts.{fixed_register, allows_byte_names, fact
 use Rattle.asm_core.specs.Reading.Line.{Defined, goal_of, line_of, name_len, place_from, readings_from, readings_of, disp_arg, arg_of, sym_of, inst_of_reading, template_raws, lines_under}
 use Rattle.asm_core.specs.Reading.Placed.{placed_disp, spot_disp, operand_under}
 use Rattle.asm_core.specs.Reading.UnderShape.{IsLettered, statements_of}
+use Rattle.asm_core.proofs.ReadingLaws.CutWhole.{first_true, both_true}
 use Rattle.asm_core.proofs.ReadingLaws.BodiesRead.{statements-kept}
 use Rattle.asm_core.proofs.ReadingLaws.CutKept.{raw_map}
 use Rattle.asm_core.proofs.ReadingLaws.InstsRead.{line_operands, line_there, insts_are}
@@ -43,17 +45,6 @@ use Rattle.asm_core.specs.declared.reading.Atom.{Atom}
 use Rattle.asm_core.specs.declared.reading.Line.{Line}
 use Rattle.asm_core.specs.declared.reading.LineOperand.{LineOperand}
 use Rattle.asm_core.specs.declared.lines.Lines.{Lines}
-
-both_true : (a b : Bool) → (a && b) ≡ true → b ≡ true
-both_true true b h = h
-both_true false b h = cc
-
-first_true : (a b : Bool) → (a && b) ≡ true → a ≡ true
-first_true true b h = refl
-first_true false b h = cc
-
-and_of : (a b : Bool) → a ≡ true → b ≡ true → (a && b) ≡ true
-and_of a b ha hb = rw (ha, hb) refl
 
 -- ---- places of operands
 
@@ -96,7 +87,7 @@ module _ (i : Interface) (s : Shape) (is : IsInterface i) where
       eo ea in
       let own : tie_root i s root ≡ root = root_is i s root ro (Some alt) eo found ∙ rw untied refl in
       let free : is_free (Some ro) (Some alt) (Some kind) ≡ true = rw (same, none) refl in
-      and_of (tie_root i s root == root) _ (eq-eqb (tie_root i s root) root own) (rw (eo, found, ek) free)
+      and_from (tie_root i s root == root) _ (eq-eqb (tie_root i s root) root own) (rw (eo, found, ek) free)
 
   from_own : (k : ℕ) (o : OperandIface) → slice_get i.operands k ≡ Some o
       → (ro : Option OperandIface) (ra : Option AltIface) (kind : Option Kind) (fact : OperandFacts)
@@ -145,7 +136,7 @@ module _ (i : Interface) (s : Shape) (p : Placement) (fact : OperandFacts) (own 
   place_there : (fixed : Option Reg) → fact.kind ≡ Kind.Register → fact.fixed ≡ fixed
       → is_register (spot_of p fact.root) ≡ true
       → is_place_fit i s p (elim fixed [ None ↦ Place.Operand fact.root | Some r ↦ Place.Reg r ]) ≡ true
-  place_there None kind e h = and_of (is_register (spot_of p fact.root)) (has_own_place i s fact.root) h (own kind e)
+  place_there None kind e h = and_from (is_register (spot_of p fact.root)) (has_own_place i s fact.root) h (own kind e)
   place_there (Some r) kind e h = refl
 
   register_there : (slice : Option Slice) → fact.kind ≡ Kind.Register → is_register (spot_of p fact.root) ≡ true
@@ -281,7 +272,7 @@ module _ (i : Interface) (s : Shape) (p : Placement) where
       → list_all (is_arg_own i s) (map (arg_of count) os) ≡ true
   operands_own count [] h = refl
   operands_own count (o ∷ os) h =
-      and_of (is_arg_own i s (arg_of count o)) _ (operand_own count o (first_true (is_operand_fit o) _ h))
+      and_from (is_arg_own i s (arg_of count o)) _ (operand_own count o (first_true (is_operand_fit o) _ h))
       (operands_own count os (both_true (is_operand_fit o) _ h))
 
   line_placed : (rows : List NameRow) (labels : List Defined) (n count place : ℕ) (before : List Prefix)
@@ -329,7 +320,7 @@ module _ (i : Interface) (s : Shape) (is : IsInterface i) (p : Placement) (lette
   atoms_placed : (xs : List Piece) → AreFit i s p (map atom xs)
   atoms_placed [] = refl
   atoms_placed (x ∷ xs) =
-      and_of (is_leaf_placed p (is_place_fit i s p) (register_fit i s p) (atom x).leaf) _ (atom_placed x)
+      and_from (is_leaf_placed p (is_place_fit i s p) (register_fit i s p) (atom x).leaf) _ (atom_placed x)
       (atoms_placed xs)
 
   readings_placed : (rows : List NameRow) (labels : List Defined) (n count : ℕ) (raws : List (Raw Piece))

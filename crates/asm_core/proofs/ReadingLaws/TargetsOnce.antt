@@ -9,6 +9,7 @@ use Rattle.asm_core.specs.Reading.Cut.{Raw, labels_from, instruction_count}
 use Rattle.asm_core.specs.Reading.Chosen.{Class, class_of, allows_label, allows, width_or, slot_allows, all_stand, is_memory, first_of_two, size_in, op_in, choice, choice_in, first_choice, suffix_width, suffixed_choice, choice_of}
 use Rattle.asm_core.specs.Reading.Line.{Defined, goal_of, line_of, line_read, place_from, readings_from, readings_of, label_in, onto_targets, target_in, target_of, targets_from, inst_of_reading, template_raws, lines_with, lines_under}
 use Rattle.asm_core.specs.Reading.Names.{names}
+use Rattle.asm_core.proofs.ReadingLaws.CutWhole.{first_true, both_true}
 use Rattle.asm_core.proofs.ReadingLaws.InstsRead.{line_choice, insts_are, targets_are}
 use Rattle.asm_core.specs.declared.inst.Op.{Op}
 use Rattle.asm_core.specs.declared.inst.Width.{Width}
@@ -27,14 +28,6 @@ use Rattle.asm_core.specs.declared.reading.Reading.{Reading}
 use Rattle.asm_core.specs.declared.lines.JumpTarget.{JumpTarget}
 use Rattle.asm_core.specs.declared.lines.Lines.{Lines}
 use Rattle.asm_core.specs.declared.lines.LinesEnd.{LinesEnd}
-
-first_true : (a b : Bool) → (a && b) ≡ true → a ≡ true
-first_true true b h = refl
-first_true false b h = cc
-
-both_true : (a b : Bool) → (a && b) ≡ true → b ≡ true
-both_true true b h = h
-both_true false b h = cc
 
 -- ---- labels by the table of names
 
