@@ -1,5 +1,5 @@
 -- Where a hole may be lost among elements that are cut: what is written between the cuts holds no hole.
-use Rattle.std.proofs.Common.{◌≡◌, ℕ, zero, suc, ◌+◌, ◌==◌, ◌||◌, ◌&&◌, ◌≤◌, not, List, [], ◌∷◌, length, map, take, drop, Bool, true, false, cond, refl, sym, ◌∙◌, slice_index, arith}
+use Rattle.std.proofs.Common.{◌≡◌, ℕ, zero, suc, ◌+◌, ◌==◌, ◌||◌, ◌&&◌, ◌≤◌, not, List, [], ◌∷◌, length, map, take, drop, Bool, true, false, cond, refl, slice_index, arith}
 use Rattle.std.proofs.Math.Dec.{eqb-suc-zero}
 use Rattle.std.proofs.lemmas.Bool.{and_from, eqb-true}
 use Rattle.std.specs.List.{prefix_len, list_all}

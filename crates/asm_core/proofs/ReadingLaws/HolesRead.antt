@@ -1,18 +1,17 @@
 -- Each hole of an instruction that is read stands for a whole register or a number in its address, or is one of its
 -- operands.
-use Rattle.std.proofs.Common.{◌≡◌, ℕ, zero, suc, ◌+◌, ◌==◌, ◌||◌, ◌&&◌, ◌≤◌, nat_lt, not, ℤ, pos, List, [], ◌∷◌, length, map, take, drop, Bool, true, false, cond, Option, None, Some, refl, ap, sym, subst, ◌∙◌, slice_index, arith}
+use Rattle.std.proofs.Common.{◌≡◌, ℕ, zero, suc, ◌+◌, ◌==◌, ◌||◌, ◌&&◌, ◌≤◌, nat_lt, not, ℤ, pos, List, [], ◌∷◌, length, take, drop, Bool, true, false, cond, Option, None, Some, refl, ap, sym, ◌∙◌, slice_index, arith}
 use Rattle.std.proofs.Math.Dec.{eqb-suc-zero}
 use Rattle.std.proofs.lemmas.Bool.{ltb-false, not-true}
 use Rattle.std.specs.Option.{option_map}
 use Rattle.std.specs.List.{list_all}
-use Rattle.asm_core.specs.Reading.Cut.{is_blank, is_word}
+use Rattle.asm_core.specs.Reading.Cut.{is_word}
 use Rattle.asm_core.specs.Reading.Written.{register_named, number_of}
 use Rattle.asm_core.specs.Reading.Operands.{atom_code, ended, trimmed, hole_of, number_disp, disp_or, disp_in, whole_register, register_place, place_or, place_in, scale_of, scale_or, scale_in, before, address, indexed, base_in, index_in, between, enclosed, front_disp, address_at, address_of, register_operand, label_or, written_operand, hole_operand, operand_of, comma_outside, operands_in, operands_of, all_some}
-use Rattle.asm_core.specs.Reading.Line.{line_with, line_chosen, line_of_operands, line_at, line_of, line_read, name_len}
+use Rattle.asm_core.specs.Reading.Line.{line_of, line_read, name_len}
 use Rattle.asm_core.proofs.ReadingLaws.CutWhole.{first_true, both_true}
 use Rattle.asm_core.proofs.ReadingLaws.InstsRead.{line_operands}
 use Rattle.asm_core.proofs.ReadingLaws.WrittenCodes.{cond_some, number_codes, percent_codes, NameLabels}
-use Rattle.asm_core.specs.declared.reading.Reading.{Reading}
 use Rattle.asm_core.specs.declared.reg.Reg.{Reg}
 use Rattle.asm_core.specs.declared.reg.Slice.{Slice}
 use Rattle.asm_core.specs.declared.sym.Place.{Place}
@@ -22,12 +21,9 @@ use Rattle.asm_core.specs.declared.names.NameRow.{NameRow}
 use Rattle.asm_core.specs.declared.reading.Leaf.{Leaf}
 use Rattle.asm_core.specs.declared.reading.Atom.{Atom}
 use Rattle.asm_core.specs.declared.reading.LineOperand.{LineOperand}
-use Rattle.asm_core.specs.Reading.Chosen.{class_of, choice_of, prefixes_fit}
-use Rattle.asm_core.specs.declared.names.Choice.{Choice}
-use Rattle.asm_core.specs.declared.names.Prefixed.{Prefixed}
 use Rattle.asm_core.specs.declared.placement.Form.{Form}
 use Rattle.asm_core.specs.declared.reading.Line.{Line}
-use Rattle.asm_core.proofs.ReadingLaws.HolesCut.{codes_of, is_held, are_held, held_codes, held_behind, held_ended, all_taken, held_trimmed, held_cut, held_comma, held_after, held_before}
+use Rattle.asm_core.proofs.ReadingLaws.HolesCut.{codes_of, are_held, held_codes, held_behind, held_ended, all_taken, held_trimmed, held_cut, held_comma, held_after, held_before}
 
 -- Which leaves are lost: a whole register, a number and an address never are.
 pub record MayBeLost (is_lost : Leaf → Bool) : Type 0 where

@@ -1,5 +1,5 @@
 -- What the instructions of lines under a shape are made of.
-use Rattle.std.proofs.Common.{◌≡◌, ℕ, ◌==◌, ◌||◌, nat_lt, List, map, drop, Bool, true, false, cond, Option, None, Some, Ok, Err, refl, ap, sym, ◌∙◌, subst, length, slice_index, take}
+use Rattle.std.proofs.Common.{◌≡◌, ℕ, ◌==◌, ◌||◌, nat_lt, List, map, drop, Bool, true, false, cond, Option, None, Some, Ok, Err, refl, ap, subst, length, slice_index, take}
 use Rattle.asm_core.specs.Reading.Cut.{Raw, is_blank, instruction_count}
 use Rattle.asm_core.specs.Reading.Operands.{atom_code, trimmed, operands_of, all_some}
 use Rattle.asm_core.specs.Reading.Chosen.{class_of, choice_of, prefixes_fit}

@@ -1,17 +1,15 @@
 -- Where a placement puts an operand with a name for each hole of it, the hole's text is there.
-use Rattle.std.proofs.Common.{◌≡◌, ℕ, ◌%◌, ◌==◌, ◌||◌, ◌&&◌, not, List, ◌∷◌, Bool, true, false, cond, Option, None, Some, refl, ap, sym, subst, ◌∙◌, slice_get}
+use Rattle.std.proofs.Common.{◌≡◌, ℕ, ◌%◌, ◌==◌, ◌||◌, ◌&&◌, not, ◌∷◌, Bool, true, false, cond, Option, None, Some, refl, ap, sym, subst, ◌∙◌, slice_get}
 use Rattle.std.proofs.lemmas.Bool.{eqb-true}
-use Rattle.std.specs.Option.{option_and_then}
 use Rattle.asm_core.specs.Placement.{spot_of, tie_root}
 use Rattle.asm_core.specs.WellFormed.{IsInterface}
 use Rattle.asm_core.specs.Expansion.{name_of, register_text, printed, operand_text}
 use Rattle.asm_core.specs.Reading.Facts.{only_register, fixed_register, allows_byte_names, facts_from, alternative_at, facts_with, facts_of, slice_of, is_byte_slice, place_of, is_fixed_cl, register_leaf, number_leaf, memory_leaf, leaf_by, leaf_of}
 use Rattle.asm_core.specs.Reading.UnderShape.{IsLettered}
 use Rattle.asm_core.proofs.ReadingLaws.HolesRead.{MayBeLost}
-use Rattle.asm_core.proofs.ReadingLaws.OperandsBack.{IsFixed, FitsFacts, Hold, facts_hold}
+use Rattle.asm_core.proofs.ReadingLaws.OperandsBack.{IsFixed, FitsFacts, facts_hold}
 use Rattle.asm_core.specs.declared.reg.Reg.{Reg}
 use Rattle.asm_core.specs.declared.reg.Reg.TheVariants.{Eax, Ebx, Ecx, Edx, Esi, Edi, Ebp}
-use Rattle.asm_core.specs.declared.reg.RegSet.{RegSet}
 use Rattle.asm_core.specs.declared.reg.Slice.{Slice}
 use Rattle.asm_core.specs.declared.reg.Slice.TheVariants.{Low8, High8, Low16, All}
 use Rattle.asm_core.specs.declared.sym.Place.{Place}

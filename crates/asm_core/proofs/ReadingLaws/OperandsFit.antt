@@ -1,12 +1,12 @@
 -- Under a placement by letters each operand of a line is placed.
-use Rattle.std.proofs.Common.{◌≡◌, ℕ, zero, suc, ◌+◌, ◌==◌, ◌&&◌, ◌≤◌, nat_lt, not, ℤ, pos, List, [], ◌∷◌, length, map, take, drop, Bool, true, false, cond, Option, None, Some, refl, ap, sym, subst, ◌∙◌, slice_get, slice_index, arith}
+use Rattle.std.proofs.Common.{◌≡◌, ℕ, zero, suc, ◌+◌, ◌==◌, ◌≤◌, nat_lt, ℤ, pos, List, [], ◌∷◌, length, map, take, drop, Bool, true, false, cond, Option, None, Some, refl, subst, slice_index, arith}
 use Rattle.std.proofs.lemmas.Bool.{and_from}
-use Rattle.std.specs.List.{prefix_len, list_all}
+use Rattle.std.specs.List.{list_all}
 use Rattle.std.specs.Option.{option_map}
 use Rattle.asm_core.specs.Placement.{spot_of}
-use Rattle.asm_core.specs.Reading.Cut.{is_blank, begun}
+use Rattle.asm_core.specs.Reading.Cut.{begun}
 use Rattle.asm_core.specs.Reading.Written.{register_named, number_of}
-use Rattle.asm_core.specs.Reading.Operands.{atom_code, content_len, ended, trimmed, hole_of, number_disp, disp_or, disp_in, before, address, base_in, index_in, place_in, between, enclosed, front_disp, address_at, address_of, is_cl, register_operand, label_or, written_operand, hole_operand, operand_of, comma_outside, operands_in, operands_of, all_some}
+use Rattle.asm_core.specs.Reading.Operands.{atom_code, ended, trimmed, hole_of, number_disp, disp_or, disp_in, before, address, base_in, index_in, place_in, between, enclosed, front_disp, address_at, address_of, is_cl, register_operand, label_or, written_operand, hole_operand, operand_of, comma_outside, operands_in, operands_of, all_some}
 use Rattle.asm_core.specs.Reading.Placed.{placed_disp}
 use Rattle.asm_core.proofs.ReadingLaws.CutWhole.{first_true, both_true}
 use Rattle.asm_core.proofs.ReadingLaws.WrittenCodes.{cond_some}

@@ -1,7 +1,7 @@
 -- Under a placement by letters each instruction of the lines under a shape is placed. A place of operands in it is one
 -- that an operand
 -- has of its own.
-use Rattle.std.proofs.Common.{◌≡◌, ℕ, zero, suc, ℤ, not, cond, is_none, eq-eqb, ◌==◌, ◌+◌, ◌&&◌, ◌≤◌, All, List, [], ◌∷◌, length, map, drop, Bool, true, false, Option, None, Some, Ok, refl, ap, sym, subst, ◌∙◌, slice_get, arith}
+use Rattle.std.proofs.Common.{◌≡◌, ℕ, zero, suc, ℤ, not, cond, is_none, eq-eqb, ◌==◌, ◌+◌, ◌&&◌, All, List, [], ◌∷◌, length, map, drop, Bool, true, false, Option, None, Some, Ok, refl, ap, subst, ◌∙◌, slice_get, arith}
 use Rattle.std.proofs.lemmas.Bool.{and_from}
 use Rattle.std.proofs.lemmas.List.{length-map}
 use Rattle.std.proofs.lemmas.List.Elements.{All-nil, All-cons}
@@ -12,7 +12,7 @@ use Rattle.asm_core.specs.RowLaws.{IsPlaced}
 use Rattle.asm_core.specs.Reading.Cut.{Raw, labels_from, instruction_count}
 use Rattle.asm_core.specs.Reading.Operands.{atom_code, trimmed}
 use Rattle.asm_core.specs.Reading.Facts.{fixed_register, allows_byte_names, facts_from, alternative_at, facts_with, facts_of, slice_of, register_leaf, number_leaf, memory_leaf, disp_of, leaf_by, leaf_of, is_byte_slice, is_fixed_cl, place_of, atom_of}
-use Rattle.asm_core.specs.Reading.Line.{Defined, goal_of, line_of, name_len, place_from, readings_from, readings_of, disp_arg, arg_of, sym_of, inst_of_reading, template_raws, lines_under}
+use Rattle.asm_core.specs.Reading.Line.{Defined, goal_of, line_of, name_len, place_from, readings_from, readings_of, disp_arg, arg_of, inst_of_reading, template_raws, lines_under}
 use Rattle.asm_core.specs.Reading.Placed.{placed_disp, spot_disp, operand_under}
 use Rattle.asm_core.specs.Reading.UnderShape.{IsLettered, statements_of}
 use Rattle.asm_core.proofs.ReadingLaws.CutWhole.{first_true, both_true}
@@ -42,7 +42,6 @@ use Rattle.asm_core.specs.declared.interface.Interface.{Interface}
 use Rattle.asm_core.specs.declared.reading.OperandFacts.{OperandFacts}
 use Rattle.asm_core.specs.declared.reading.Leaf.{Leaf}
 use Rattle.asm_core.specs.declared.reading.Atom.{Atom}
-use Rattle.asm_core.specs.declared.reading.Line.{Line}
 use Rattle.asm_core.specs.declared.reading.LineOperand.{LineOperand}
 use Rattle.asm_core.specs.declared.lines.Lines.{Lines}
 

@@ -1,5 +1,5 @@
 -- The lines under a shape have an instruction exactly where the template has one with a reading.
-use Rattle.std.proofs.Common.{◌≡◌, ◌↔◌, ℕ, nat_lt, List, length, map, Bool, true, false, cond, IsTrue, Option, Some, is_some, Ok, Err, refl, ap, sym, subst, ◌∙◌, slice_get, arith}
+use Rattle.std.proofs.Common.{◌≡◌, ◌↔◌, ℕ, List, length, map, true, IsTrue, Option, Some, is_some, Ok, refl, ap, sym, subst, ◌∙◌, slice_get, arith}
 use Rattle.std.proofs.lemmas.Option.{slice_get-map}
 use Rattle.std.specs.Option.{option_map}
 use Rattle.asm_core.specs.Lists.{IsMember, optional_at}
@@ -9,7 +9,7 @@ use Rattle.asm_core.specs.WellFormed.{IsInterface}
 use Rattle.asm_core.specs.Pieces.{piece_code, ArePieces}
 use Rattle.asm_core.specs.Reading.Cut.{Raw, labels_from, instruction_count}
 use Rattle.asm_core.specs.Reading.Facts.{facts_of, atom_of}
-use Rattle.asm_core.specs.Reading.Line.{goal_of, line_of, line_read, place_from, readings_from, readings_of, inst_of_reading, lines_with, lines_under}
+use Rattle.asm_core.specs.Reading.Line.{goal_of, line_of, line_read, place_from, readings_from, readings_of, inst_of_reading, lines_under}
 use Rattle.asm_core.specs.Reading.Text.{text_inst}
 use Rattle.asm_core.specs.Reading.Placed.{is_apart, inst_under}
 use Rattle.asm_core.specs.Reading.UnderShape.{IsLettered, body_text, body_reading, HasReading, IsReading, statements_of, instructions_of, IsReadAs, ReadsExactly}
@@ -31,7 +31,6 @@ use Rattle.asm_core.specs.declared.shape.Shape.{Shape}
 use Rattle.asm_core.specs.declared.interface.Interface.{Interface}
 use Rattle.asm_core.specs.declared.reading.Atom.{Atom}
 use Rattle.asm_core.specs.declared.lines.Lines.{Lines}
-use Rattle.asm_core.specs.declared.lines.LinesEnd.{LinesEnd}
 use Rattle.asm_core.specs.declared.reading.Reading.{Reading}
 
 inst_there : (count : ℕ) (r : Reading) → is_some (inst_of_reading count r) ≡ is_some (line_read r)

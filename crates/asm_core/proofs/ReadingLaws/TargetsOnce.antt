@@ -1,19 +1,18 @@
 -- An instruction has one label at the most among its operands, and so one target.
-use Rattle.std.proofs.Common.{◌≡◌, inl, inr, ℕ, zero, suc, ◌+◌, ◌==◌, ◌&&◌, ◌<◌, ◌≤◌, nat_le, nat_lt, All, count_by, List, [], ◌∷◌, ◌++◌, length, map, take, Bool, true, false, cond, Option, None, Some, Ok, Err, refl, ap, sym, subst, ◌∙◌, arith}
+use Rattle.std.proofs.Common.{◌≡◌, inl, inr, ℕ, suc, ◌+◌, ◌&&◌, ◌<◌, ◌≤◌, nat_le, All, count_by, List, [], ◌∷◌, ◌++◌, length, map, Bool, true, false, cond, Option, None, Some, Ok, refl, ap, sym, subst, ◌∙◌, arith}
 use Rattle.std.proofs.lemmas.Bool.Decides.{nat_tests}
 use Rattle.std.proofs.lemmas.List.{length-map}
 use Rattle.std.proofs.lemmas.List.Elements.{All-nil, All-cons, All-head, All-tail}
 use Rattle.std.specs.List.{list_all}
 use Rattle.asm_core.specs.Lists.{IsMember}
-use Rattle.asm_core.specs.Reading.Cut.{Raw, labels_from, instruction_count}
-use Rattle.asm_core.specs.Reading.Chosen.{Class, class_of, allows_label, allows, width_or, slot_allows, all_stand, is_memory, first_of_two, size_in, op_in, choice, choice_in, first_choice, suffix_width, suffixed_choice, choice_of}
-use Rattle.asm_core.specs.Reading.Line.{Defined, goal_of, line_of, line_read, place_from, readings_from, readings_of, label_in, onto_targets, target_in, target_of, targets_from, inst_of_reading, template_raws, lines_with, lines_under}
+use Rattle.asm_core.specs.Reading.Cut.{Raw, labels_from}
+use Rattle.asm_core.specs.Reading.Chosen.{Class, class_of, allows_label, slot_allows, all_stand, is_memory, first_of_two, size_in, op_in, choice, choice_in, first_choice, suffixed_choice, choice_of}
+use Rattle.asm_core.specs.Reading.Line.{Defined, goal_of, line_of, line_read, place_from, readings_from, readings_of, label_in, target_in, target_of, targets_from, template_raws, lines_under}
 use Rattle.asm_core.specs.Reading.Names.{names}
 use Rattle.asm_core.proofs.ReadingLaws.CutWhole.{first_true, both_true}
 use Rattle.asm_core.proofs.ReadingLaws.InstsRead.{line_choice, insts_are, targets_are}
 use Rattle.asm_core.specs.declared.inst.Op.{Op}
 use Rattle.asm_core.specs.declared.inst.Width.{Width}
-use Rattle.asm_core.specs.declared.names.Allowed.{Allowed}
 use Rattle.asm_core.specs.declared.names.Choice.{Choice}
 use Rattle.asm_core.specs.declared.names.NameRow.{NameRow}
 use Rattle.asm_core.specs.declared.names.Prefix.{Prefix}
@@ -27,7 +26,6 @@ use Rattle.asm_core.specs.declared.reading.LineOperand.{LineOperand}
 use Rattle.asm_core.specs.declared.reading.Reading.{Reading}
 use Rattle.asm_core.specs.declared.lines.JumpTarget.{JumpTarget}
 use Rattle.asm_core.specs.declared.lines.Lines.{Lines}
-use Rattle.asm_core.specs.declared.lines.LinesEnd.{LinesEnd}
 
 -- ---- labels by the table of names
 

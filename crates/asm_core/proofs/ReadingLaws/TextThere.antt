@@ -1,9 +1,8 @@
 -- Where all instructions of a template are read, its text is there under each placement that names the bytes that they
 -- name.
-use Rattle.std.proofs.Common.{◌≡◌, ℕ, suc, ◌+◌, ◌==◌, ◌&&◌, nat_lt, not, List, [], ◌∷◌, ◌++◌, map, Bool, true, false, cond, Option, None, Some, Result, Ok, Err, refl, ap, sym, subst, ◌∙◌, ◌||◌}
-use Rattle.std.proofs.lemmas.Bool.{and_from, eqb-true, not-true}
+use Rattle.std.proofs.Common.{◌≡◌, ℕ, suc, ◌+◌, ◌==◌, ◌&&◌, not, List, [], ◌∷◌, ◌++◌, map, Bool, true, false, cond, Option, None, Some, Result, Ok, Err, refl, sym, subst, ◌∙◌}
+use Rattle.std.proofs.lemmas.Bool.{and_from, not-true}
 use Rattle.std.specs.List.{list_all}
-use Rattle.std.specs.Option.{option_map}
 use Rattle.asm_core.specs.Comments.{kept, comments_of, uncommented}
 use Rattle.asm_core.specs.WellFormed.{IsInterface}
 use Rattle.asm_core.specs.Pieces.{piece_code}
@@ -11,7 +10,7 @@ use Rattle.asm_core.specs.Expansion.{operand_text, with_origin, hole_text, piece
 use Rattle.asm_core.specs.Reading.Cut.{Raw, raws_of, labels_from, instruction_count}
 use Rattle.asm_core.specs.Reading.Operands.{atom_code}
 use Rattle.asm_core.specs.Reading.Facts.{facts_of, atom_of}
-use Rattle.asm_core.specs.Reading.Line.{Defined, goal_of, line_of, line_read, place_from, readings_from, readings_of, disp_arg, arg_of, sym_of, inst_of_reading, template_raws, lines_with, lines_under}
+use Rattle.asm_core.specs.Reading.Line.{Defined, goal_of, line_of, place_from, readings_from, readings_of, disp_arg, arg_of, inst_of_reading, template_raws, lines_under}
 use Rattle.asm_core.specs.Reading.UnderShape.{IsLettered}
 use Rattle.asm_core.proofs.ReadingLaws.CutWhole.{first_true, both_true, is_raw_fit, cut_whole}
 use Rattle.asm_core.proofs.ReadingLaws.HolesCut.{is_held, are_held, held_free}
@@ -29,12 +28,9 @@ use Rattle.asm_core.specs.declared.placement.Placement.{Placement}
 use Rattle.asm_core.specs.declared.shape.Shape.{Shape}
 use Rattle.asm_core.specs.declared.interface.Interface.{Interface}
 use Rattle.asm_core.specs.declared.reading.Atom.{Atom}
-use Rattle.asm_core.specs.declared.reading.Line.{Line}
 use Rattle.asm_core.specs.declared.reading.LineOperand.{LineOperand}
-use Rattle.asm_core.specs.declared.reading.Reading.{Reading}
 use Rattle.asm_core.specs.declared.reading.Sign.{Sign}
 use Rattle.asm_core.specs.declared.lines.Lines.{Lines}
-use Rattle.asm_core.specs.declared.lines.LinesEnd.{LinesEnd}
 
 -- ---- lines whose bytes are named
 
