@@ -1,6 +1,6 @@
 -- Where no instruction breaks U2, each byte that one of them names has a name under every allowed placement.
 use Rattle.std.proofs.Common.{◌≡◌, ◌⊎◌, inl, inr, ℕ, zero, suc, ◌+◌, ◌-◌, ◌==◌, ◌&&◌, ◌||◌, ◌<◌, ◌≤◌, nat_lt, not, All, List, [], ◌∷◌, ◌++◌, length, Bool, true, false, cond, IsTrue, is_some, is_none, Option, None, Some, slice_get, refl, ap, sym, subst, ◌∙◌, eq-eqb, le-ltb, arith}
-use Rattle.std.proofs.lemmas.Bool.{eqb-true}
+use Rattle.std.proofs.lemmas.Bool.{and_from, eqb-true}
 use Rattle.std.proofs.lemmas.Option.{slice_get_within}
 use Rattle.std.proofs.lemmas.List.Elements.{All-head, All-tail}
 use Rattle.std.specs.List.{list_all, list_any}
@@ -10,6 +10,7 @@ use Rattle.asm_core.specs.Roomy.{ShareRegister, place_registers}
 use Rattle.asm_core.specs.Placement.{spot_of, tie_root, value_registers, address_registers, IsAllowed}
 use Rattle.asm_core.specs.Company.{is_pair_alone, fixed_place, register_places, kind_places, places_by, places_of}
 use Rattle.asm_core.specs.Reading.Facts.{fixed_register, only_register, alternative_at, is_byte_slice}
+use Rattle.asm_core.proofs.ReadingLaws.CutWhole.{first_true, both_true}
 use Rattle.asm_core.proofs.ReadingLaws.NamesPrinted.{lacks_bytes, spot_lacks_bytes, is_part_lost}
 use Rattle.asm_core.proofs.ReadingLaws.PlacesThere.{is_free, has_own_place, is_arg_own, IsFit}
 use Rattle.asm_core.proofs.ReadingLaws.TextThere.{is_arg_named, are_bytes_named}
@@ -35,17 +36,6 @@ use Rattle.blk_deps.specs.Operands.{in_register, is_own, is_root, has_own_regist
 use Rattle.blk_deps.specs.Rules.{is_byte_name, asks_byte_of, breaks_u2}
 use Rattle.blk_deps.specs.Start.{MayShare, TellsSharing}
 use Rattle.blk_text.specs.Text.{KeepsU2}
-
-first_true : (a b : Bool) → (a && b) ≡ true → a ≡ true
-first_true true b h = refl
-first_true false b h = cc
-
-both_true : (a b : Bool) → (a && b) ≡ true → b ≡ true
-both_true true b h = h
-both_true false b h = cc
-
-and_of : (a b : Bool) → a ≡ true → b ≡ true → (a && b) ≡ true
-and_of a b ha hb = rw (ha, hb) refl
 
 or_first : (a b : Bool) → a ≡ true → (a || b) ≡ true
 or_first a b h = rw h refl
@@ -95,9 +85,9 @@ module _ (i : Interface) (s : Shape) (k : ℕ) where
       (λ r. is_own k (places_by r (alternative_at (slice_get i.operands r) s.alternative) (slice_get s.kinds r)) ≡
       true) (sym root) here in
       let kind : in_register s k ≡ true = rw parts.1.1 refl in
-      let register = and_of (in_register s k && is_root i s k) (is_own k (places_of i s k))
-      (and_of (in_register s k) (is_root i s k) kind (eq-eqb (tie_root i s k) k root)) at in
-      and_of (is_some (slice_get i.operands k)) _ parts.0 (or_first (has_own_register i s k) _ register)
+      let register = and_from (in_register s k && is_root i s k) (is_own k (places_of i s k))
+      (and_from (in_register s k) (is_root i s k) kind (eq-eqb (tie_root i s k) k root)) at in
+      and_from (is_some (slice_get i.operands k)) _ parts.0 (or_first (has_own_register i s k) _ register)
 
   number_below : has_own_place i s k ≡ true → k < length i.operands
   number_below own =
@@ -177,7 +167,7 @@ module _ (i : Interface) (s : Shape) (p : Placement) where
   part_named k slice args none own false lacks eb el = refl
   part_named k slice args none own true false eb el = refl
   part_named k slice args none own true true eb el =
-      let asks = and_of (k == k) (is_byte_name slice) (eq-eqb k k refl) (byte_name slice ∙ eb) in
+      let asks = and_from (k == k) (is_byte_name slice) (eq-eqb k k refl) (byte_name slice ∙ eb) in
       absurd (none k own (or_first (asks_byte_of k (Arg.Register (Place.Operand k) slice)) _ asks) el)
 
   arg_named : (arg : Arg) (args : List Arg) → AsksNone (arg ∷ args) → is_arg_own i s arg ≡ true
@@ -195,7 +185,7 @@ module _ (i : Interface) (s : Shape) (p : Placement) where
       → list_all (is_arg_named p) args ≡ true
   args_named [] none own = refl
   args_named (arg ∷ args) none own =
-      and_of (is_arg_named p arg) _ (arg_named arg args none (first_true (is_arg_own i s arg) _ own))
+      and_from (is_arg_named p arg) _ (arg_named arg args none (first_true (is_arg_own i s arg) _ own))
       (args_named args (λ k there asks. none k there (or_second (asks_byte_of k arg) _ asks))
       (both_true (is_arg_own i s arg) _ own))
 
@@ -204,7 +194,7 @@ module _ (i : Interface) (s : Shape) (p : Placement) where
       → list_all (are_bytes_named p) lines ≡ true
   lines_named [] fit none = refl
   lines_named (line ∷ lines) fit none =
-      and_of (are_bytes_named p line) _
+      and_from (are_bytes_named p line) _
       (args_named line.args (none 0 line refl) (All-head (IsFit i s p) line lines fit).own)
       (lines_named lines (All-tail (IsFit i s p) line lines fit) (λ n x e. none (suc n) x e))
 
@@ -215,4 +205,4 @@ pub bytes_named : (i : Interface) (s : Shape) (p : Placement) (shares : ℕ → 
 bytes_named i s p shares g allowed tells keeps fit =
     lines_named i s p g.insts fit
     (λ n line e k own asks lacks. keeps.each n line k e (number_below i s k own)
-    (and_of (list_any (asks_byte_of k) line.args) _ asks (some_shared i s p allowed shares tells k own lacks)))
+    (and_from (list_any (asks_byte_of k) line.args) _ asks (some_shared i s p allowed shares tells k own lacks)))

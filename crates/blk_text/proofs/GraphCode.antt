@@ -24,14 +24,14 @@ goal_found : (targets : List JumpTarget) (t : JumpTarget) → IsMember t targets
 goal_found [] t m alike = absurd m
 goal_found (x ∷ xs) t m alike = by (goal_found xs t) (x.inst == t.inst) refl
   where
+    differs : (x.inst == t.inst) ≡ false → t ≡ x → ⊥
+    differs other e =
+        let same = eq-eqb x.inst t.inst (ap (λ (u : JumpTarget). u.inst) (sym e)) in
+        let wrong : true ≡ false = sym same ∙ other in
+        absurd (cc)
+
     later : (x.inst == t.inst) ≡ false → IsMember t xs
-    later other =
-        elim m [
-          | inl e ↦
-              (let same = eq-eqb x.inst t.inst (ap (λ (u : JumpTarget). u.inst) (sym e)) in let wrong : true ≡ false = sym
-              same ∙ other in cc)
-          | inr k ↦ k
-        ]
+    later other = elim m [ inl e ↦ absurd (differs other e) | inr k ↦ k ]
 
     by : (IsMember t xs → ((u : JumpTarget) → IsMember u xs → t.inst ≡ u.inst → t ≡ u) → goal_in xs t.inst ≡ t.goal)
         → (b : Bool) → (x.inst == t.inst) ≡ b

@@ -1,3 +1,4 @@
 pub mod BytesNamed
 pub mod CodeThere
 pub mod GraphCode
+pub mod KeptU2

@@ -3,22 +3,20 @@
 -- bytes.
 use Rattle.std.proofs.Common.{◌≡◌, ℕ, zero, suc, ◌+◌, ◌==◌, ◌&&◌, ◌<◌, ◌≤◌, List, [], ◌∷◌, ◌++◌, length, map, take, drop, Bool, true, false, cond, Option, None, Some, refl, ap, sym, ◌∙◌, slice_index, arith}
 use Rattle.std.proofs.Math.Dec.{eqb-suc-zero}
+use Rattle.std.proofs.lemmas.Bool.{and_from}
 use Rattle.std.proofs.lemmas.List.{length-drop}
 use Rattle.std.proofs.lemmas.List.Folds.{list_all-append}
 use Rattle.std.specs.List.{prefix_len, slice_split, onto_first, flat_map, list_all, list_any}
 use Rattle.asm_core.specs.Reading.Cut.{is_blank, is_part, ends_statement, begun, word_len, is_label, is_unique_label, same_name, prefix_named, Item, item_at, items_from, items_of, Raw, Waiting, none_waits, raws_from, raws_of}
 use Rattle.asm_core.specs.declared.names.Prefix.{Prefix}
 
-both_true : (a b : Bool) → (a && b) ≡ true → b ≡ true
+pub both_true : (a b : Bool) → (a && b) ≡ true → b ≡ true
 both_true true b h = h
 both_true false b h = cc
 
-first_true : (a b : Bool) → (a && b) ≡ true → a ≡ true
+pub first_true : (a b : Bool) → (a && b) ≡ true → a ≡ true
 first_true true b h = refl
 first_true false b h = cc
-
-and_of : (a b : Bool) → a ≡ true → b ≡ true → (a && b) ≡ true
-and_of a b ha hb = rw (ha, hb) refl
 
 one_more : (n : ℕ) → 1 + n ≡ suc n
 one_more n = omega arith
@@ -53,14 +51,14 @@ module _ {X : Type 0} (code : X → ℕ) (is_fit : X → Bool) (free : (x : X) �
       by : (are_fit (drop (prefix_len p (map code xs)) xs) ≡ true → are_fit xs ≡ true) → (b : Bool) → p (code x) ≡ b
           → are_fit (drop (cond b (1 + prefix_len p (map code xs)) zero) (x ∷ xs)) ≡ true → are_fit (x ∷ xs) ≡ true
       by more true e h =
-          and_of (is_fit x) (are_fit xs) (by_code p none x e) (more (rw (one_more (prefix_len p (map code xs))) at h))
+          and_from (is_fit x) (are_fit xs) (by_code p none x e) (more (rw (one_more (prefix_len p (map code xs))) at h))
       by more false e h = h
 
   -- behind the one of that code
   behind_one : (c : ℕ) → (0 == c) ≡ false → (n : ℕ) (xs : List X) → (slice_index (map code xs) n == c) ≡ true
       → are_fit (drop (suc n) xs) ≡ true → are_fit (drop n xs) ≡ true
   behind_one c other zero [] e h = refl
-  behind_one c other zero (x ∷ xs) e h = and_of (is_fit x) (are_fit xs) (by_code (λ d. d == c) other x e) h
+  behind_one c other zero (x ∷ xs) e h = and_from (is_fit x) (are_fit xs) (by_code (λ d. d == c) other x e) h
   behind_one c other (suc n) [] e h = refl
   behind_one c other (suc n) (x ∷ xs) e h = behind_one c other n xs e h
 
@@ -171,7 +169,7 @@ module _ {X : Type 0} (code : X → ℕ) (is_fit : X → Bool) (free : (x : X) �
   parts_fit [] all = refl
   parts_fit (part ∷ parts) all =
       let both = sym (list_all-append is_item_fit (items_of code part) (flat_map (items_of code) parts)) ∙ all in
-      and_of (are_fit part) (list_all are_fit parts)
+      and_from (are_fit part) (list_all are_fit parts)
       (items_fit (length part + 1) true part (omega arith)
       (first_true (list_all is_item_fit (items_of code part)) _ both))
       (parts_fit parts (both_true (list_all is_item_fit (items_of code part)) _ both))
@@ -180,11 +178,10 @@ module _ {X : Type 0} (code : X → ℕ) (is_fit : X → Bool) (free : (x : X) �
       → (is_fit x ≡ true) × (list_all are_fit parts ≡ true)
   onto_fit x [] all = (first_true (is_fit x) true (first_true (is_fit x && true) true all), refl)
   onto_fit x (part ∷ parts) all =
-      let first = first_true (is_fit x && are_fit part) (list_all are_fit parts) all in (
-        first_true (is_fit x) (are_fit part) first,
-        and_of (are_fit part) (list_all are_fit parts)
-            (both_true (is_fit x) (are_fit part) first) (both_true (is_fit x && are_fit part) (list_all are_fit parts) all),
-      )
+      let first = first_true (is_fit x && are_fit part) (list_all are_fit parts) all in
+      let rest = both_true (is_fit x && are_fit part) (list_all are_fit parts) all in
+      let other = both_true (is_fit x) (are_fit part) first in
+      (first_true (is_fit x) (are_fit part) first, and_from (are_fit part) (list_all are_fit parts) other rest)
 
   split_fit : (xs : List X) → list_all are_fit (slice_split (λ z. ends_statement (code z)) xs) ≡ true
       → are_fit xs ≡ true
@@ -196,8 +193,8 @@ module _ {X : Type 0} (code : X → ℕ) (is_fit : X → Bool) (free : (x : X) �
 
       by : (list_all are_fit parts ≡ true → are_fit xs ≡ true) → (b : Bool) → ends_statement (code x) ≡ b
           → list_all are_fit (cond b ([] ∷ parts) (onto_first x parts)) ≡ true → are_fit (x ∷ xs) ≡ true
-      by more true e all = and_of (is_fit x) (are_fit xs) (by_code ends_statement refl x e) (more all)
-      by more false e all = let o = onto_fit x parts all in and_of (is_fit x) (are_fit xs) o.0 (more o.1)
+      by more true e all = and_from (is_fit x) (are_fit xs) (by_code ends_statement refl x e) (more all)
+      by more false e all = let o = onto_fit x parts all in and_from (is_fit x) (are_fit xs) o.0 (more o.1)
 
   -- ---- instructions
 
@@ -226,7 +223,7 @@ module _ {X : Type 0} (code : X → ℕ) (is_fit : X → Bool) (free : (x : X) �
   raws_fit w seen (Item.Prefixed p from ∷ items) all =
       raws_fit (record { prefixes = w.prefixes ++ p ∷ []; froms = w.froms ++ from ∷ [] }) seen items all
   raws_fit w seen (Item.Body body ∷ items) all =
-      and_of (are_fit body) (list_all is_item_fit items) (first_true (are_fit body) _ all)
+      and_from (are_fit body) (list_all is_item_fit items) (first_true (are_fit body) _ all)
       (raws_fit none_waits seen items (both_true (are_fit body) _ all))
 
   -- all are fit where those in the bodies are

@@ -2,13 +2,14 @@
 -- operands.
 use Rattle.std.proofs.Common.{◌≡◌, ℕ, zero, suc, ◌+◌, ◌==◌, ◌||◌, ◌&&◌, ◌≤◌, nat_lt, not, ℤ, pos, List, [], ◌∷◌, length, take, drop, Bool, true, false, cond, Option, None, Some, refl, ap, sym, ◌∙◌, slice_index, arith}
 use Rattle.std.proofs.Math.Dec.{eqb-suc-zero}
-use Rattle.std.proofs.lemmas.Bool.{ltb-false}
+use Rattle.std.proofs.lemmas.Bool.{ltb-false, not-true}
 use Rattle.std.specs.Option.{option_map}
 use Rattle.std.specs.List.{list_all}
 use Rattle.asm_core.specs.Reading.Cut.{is_word}
 use Rattle.asm_core.specs.Reading.Written.{register_named, number_of}
 use Rattle.asm_core.specs.Reading.Operands.{atom_code, ended, trimmed, hole_of, number_disp, disp_or, disp_in, whole_register, register_place, place_or, place_in, scale_of, scale_or, scale_in, before, address, indexed, base_in, index_in, between, enclosed, front_disp, address_at, address_of, register_operand, label_or, written_operand, hole_operand, operand_of, comma_outside, operands_in, operands_of, all_some}
 use Rattle.asm_core.specs.Reading.Line.{line_of, line_read, name_len}
+use Rattle.asm_core.proofs.ReadingLaws.CutWhole.{first_true, both_true}
 use Rattle.asm_core.proofs.ReadingLaws.InstsRead.{line_operands}
 use Rattle.asm_core.proofs.ReadingLaws.WrittenCodes.{cond_some, number_codes, percent_codes, NameLabels}
 use Rattle.asm_core.specs.declared.reg.Reg.{Reg}
@@ -22,7 +23,7 @@ use Rattle.asm_core.specs.declared.reading.Atom.{Atom}
 use Rattle.asm_core.specs.declared.reading.LineOperand.{LineOperand}
 use Rattle.asm_core.specs.declared.placement.Form.{Form}
 use Rattle.asm_core.specs.declared.reading.Line.{Line}
-use Rattle.asm_core.proofs.ReadingLaws.HolesCut.{codes_of, both_true, first_true, are_held, held_codes, behind, held_ended, all_taken, held_trimmed, held_cut, held_comma, held_after, held_before}
+use Rattle.asm_core.proofs.ReadingLaws.HolesCut.{codes_of, are_held, held_codes, held_behind, held_ended, all_taken, held_trimmed, held_cut, held_comma, held_after, held_before}
 
 -- Which leaves are lost: a whole register, a number and an address never are.
 pub record MayBeLost (is_lost : Leaf → Bool) : Type 0 where
@@ -64,10 +65,6 @@ indexed_parts (Some place) (Some scale) index e = ((place, refl), (scale, refl))
 register_some : (r : Option (Reg × Slice)) (o : LineOperand) → register_operand r ≡ Some o → IsThere r
 register_some None o e = cc
 register_some (Some r) o e = (r, refl)
-
-not_true : (b : Bool) → not b ≡ true → b ≡ false
-not_true true h = cc
-not_true false h = refl
 
 -- an operand that isn't lost as a whole
 abbrev pub is_held_in : (Leaf → Bool) → LineOperand → Bool
@@ -267,7 +264,7 @@ module _ (is_lost : Leaf → Bool) (never : MayBeLost is_lost) where
     operand_leaf xs o own Leaf.Nothing held e = held never.nothing
     operand_leaf xs o own (Leaf.Register place slice count) held e =
         let same : o ≡ LineOperand.Register place slice count = cc in
-        held (not_true (is_lost (Leaf.Register place slice count)) (ap (is_held_in is_lost) (sym same) ∙ own))
+        held (not-true (is_lost (Leaf.Register place slice count)) (ap (is_held_in is_lost) (sym same) ∙ own))
     operand_leaf xs o own (Leaf.Immediate d) held e = held (never.immediate d)
     operand_leaf xs o own (Leaf.Bare d known) held e = held (never.bare d known)
     operand_leaf xs o own (Leaf.Memory k form) held e = held (never.memory k form)
@@ -337,6 +334,6 @@ module _ (is_lost : Leaf → Bool) (never : MayBeLost is_lost) where
         → list_all (is_held_in is_lost) l.operands ≡ true → are_held is_lost xs ≡ true
     line_read_held rows before place xs l e own =
         let n = name_len (codes_of xs) in
-        behind is_lost is_word refl xs
+        held_behind is_lost is_word refl xs
         (held_trimmed is_lost (drop n xs)
         (all_held (trimmed (drop n xs)) (l.operands, (line_operands rows goal before place xs l e, own))))

@@ -1,11 +1,13 @@
 -- Under a placement by letters each operand of a line is placed.
 use Rattle.std.proofs.Common.{◌≡◌, ℕ, zero, suc, ◌+◌, ◌==◌, ◌&&◌, ◌≤◌, nat_lt, ℤ, pos, List, [], ◌∷◌, length, map, take, drop, Bool, true, false, cond, Option, None, Some, refl, subst, slice_index, arith}
+use Rattle.std.proofs.lemmas.Bool.{and_from}
 use Rattle.std.specs.List.{list_all}
 use Rattle.std.specs.Option.{option_map}
 use Rattle.asm_core.specs.Reading.Cut.{begun}
 use Rattle.asm_core.specs.Reading.Written.{register_named, number_of}
 use Rattle.asm_core.specs.Reading.Operands.{atom_code, ended, trimmed, hole_of, whole_register, register_place, place_or, indexed, scale_in, number_disp, disp_or, disp_in, before, address, base_in, index_in, place_in, between, enclosed, front_disp, address_at, address_of, is_cl, register_operand, label_or, written_operand, hole_operand, operand_of, comma_outside, operands_in, operands_of, all_some}
 use Rattle.asm_core.specs.Reading.Placed.{placed_disp}
+use Rattle.asm_core.proofs.ReadingLaws.CutWhole.{first_true, both_true}
 use Rattle.asm_core.proofs.ReadingLaws.WrittenCodes.{cond_some}
 use Rattle.asm_core.specs.declared.reg.Reg.{Reg}
 use Rattle.asm_core.specs.declared.reg.Slice.{Slice}
@@ -16,17 +18,6 @@ use Rattle.asm_core.specs.declared.placement.Placement.{Placement}
 use Rattle.asm_core.specs.declared.reading.Leaf.{Leaf}
 use Rattle.asm_core.specs.declared.reading.Atom.{Atom}
 use Rattle.asm_core.specs.declared.reading.LineOperand.{LineOperand}
-
-both_true : (a b : Bool) → (a && b) ≡ true → b ≡ true
-both_true true b h = h
-both_true false b h = cc
-
-first_true : (a b : Bool) → (a && b) ≡ true → a ≡ true
-first_true true b h = refl
-first_true false b h = cc
-
-and_of : (a b : Bool) → a ≡ true → b ≡ true → (a && b) ≡ true
-and_of a b ha hb = rw (ha, hb) refl
 
 abbrev pub is_number : Disp → Bool
 is_number (Disp.Number n) = true
@@ -78,7 +69,7 @@ module _ (p : Placement) (is_place_fit : Place → Bool) (registers : (r : Reg) 
   take_placed zero xs h = refl
   take_placed (suc n) [] h = refl
   take_placed (suc n) (x ∷ xs) h =
-      and_of (is_leaf_placed x.leaf) _ (first_true (is_leaf_placed x.leaf) _ h)
+      and_from (is_leaf_placed x.leaf) _ (first_true (is_leaf_placed x.leaf) _ h)
       (take_placed n xs (both_true (is_leaf_placed x.leaf) _ h))
 
   ended_placed : (xs : List Atom) → ArePlaced xs → ArePlaced (ended xs)
@@ -216,8 +207,8 @@ module _ (p : Placement) (is_place_fit : Place → Bool) (registers : (r : Reg) 
   address_placed (Some d) (Some base) (Some index) h b i a e =
       let same : LineOperand.Address d base index ≡ a = cc in
       subst (λ x. is_operand_placed x ≡ true) same
-      (and_of (is_number (placed_disp p d)) (is_base_fit base && is_index_fit index) (h d refl)
-      (and_of (is_base_fit base) (is_index_fit index) (b base refl) (i index refl)))
+      (and_from (is_number (placed_disp p d)) (is_base_fit base && is_index_fit index) (h d refl)
+      (and_from (is_base_fit base) (is_index_fit index) (b base refl) (i index refl)))
 
   between_placed : (d : Option Disp) (xs : List Atom) (n : ℕ) → IsDispPlaced d → ArePlaced xs
       → IsOperandPlaced (between d xs n)
@@ -296,7 +287,7 @@ module _ (p : Placement) (is_place_fit : Place → Bool) (registers : (r : Reg) 
         let same : LineOperand.Immediate d ≡ a = cc in subst (λ x. is_operand_placed x ≡ true) same h
     hole_operand_placed (Leaf.Bare d known) other h written a e =
         let same : LineOperand.Address d None None ≡ a = cc in
-        subst (λ x. is_operand_placed x ≡ true) same (and_of (is_number (placed_disp p d)) true h refl)
+        subst (λ x. is_operand_placed x ≡ true) same (and_from (is_number (placed_disp p d)) true h refl)
     hole_operand_placed (Leaf.Memory k form) other h written a e =
         let same : LineOperand.Memory k form ≡ a = cc in subst (λ x. is_operand_placed x ≡ true) same h
     hole_operand_placed Leaf.Nameless other h written a e = cc
@@ -325,7 +316,7 @@ module _ (p : Placement) (is_place_fit : Place → Bool) (registers : (r : Reg) 
             let m = more ys f in
             let few = m.few in
             subst (Fit (suc most)) same
-            (record { few = omega (arith, few); placed = and_of (is_operand_placed a) _ (h a refl) m.placed })
+            (record { few = omega (arith, few); placed = and_from (is_operand_placed a) _ (h a refl) m.placed })
 
     operands_fit_in : (left : ℕ) (xs : List Atom) (n : ℕ) → ArePlaced xs → (os : List LineOperand)
         → all_some (operands_in goal left xs n) ≡ Some os → Fit left os

@@ -4,6 +4,7 @@
 use Rattle.std.proofs.Common.{◌≡◌, ℕ, zero, suc, ℤ, not, cond, is_none, is_some, eq-eqb, ◌==◌, ◌+◌, ◌&&◌, All, List, [], ◌∷◌, length, map, drop, Bool, true, false, Option, None, Some, Ok, refl, ap, subst, ◌∙◌, slice_get, arith}
 use Rattle.std.proofs.lemmas.List.{length-map}
 use Rattle.std.proofs.lemmas.List.Elements.{All-nil, All-cons}
+use Rattle.std.proofs.lemmas.Bool.{and_from}
 use Rattle.std.specs.List.{list_all}
 use Rattle.asm_core.specs.Placement.{spot_of, tie_root}
 use Rattle.asm_core.specs.WellFormed.{IsInterface}
@@ -16,6 +17,7 @@ use Rattle.asm_core.specs.Reading.Placed.{placed_disp, spot_disp, operand_under}
 use Rattle.asm_core.specs.Reading.UnderShape.{IsLettered, statements_of}
 use Rattle.asm_core.proofs.ReadingLaws.BodiesRead.{statements-kept}
 use Rattle.asm_core.proofs.ReadingLaws.CutKept.{raw_map}
+use Rattle.asm_core.proofs.ReadingLaws.CutWhole.{first_true, both_true}
 use Rattle.asm_core.proofs.ReadingLaws.InstsRead.{line_operands, line_there, insts_are}
 use Rattle.asm_core.proofs.ReadingLaws.OperandsBack.{FitsFacts, root_is, root_untied, facts_hold}
 use Rattle.asm_core.proofs.ReadingLaws.OperandsFit.{is_number, is_memory, is_base_fit, is_index_fit, is_leaf_placed, is_operand_placed, ArePlaced, drop_placed, trimmed_placed, operands_fit}
@@ -42,17 +44,6 @@ use Rattle.asm_core.specs.declared.reading.Leaf.{Leaf}
 use Rattle.asm_core.specs.declared.reading.Atom.{Atom}
 use Rattle.asm_core.specs.declared.reading.LineOperand.{LineOperand}
 use Rattle.asm_core.specs.declared.lines.Lines.{Lines}
-
-both_true : (a b : Bool) → (a && b) ≡ true → b ≡ true
-both_true true b h = h
-both_true false b h = cc
-
-first_true : (a b : Bool) → (a && b) ≡ true → a ≡ true
-first_true true b h = refl
-first_true false b h = cc
-
-and_of : (a b : Bool) → a ≡ true → b ≡ true → (a && b) ≡ true
-and_of a b ha hb = rw (ha, hb) refl
 
 -- ---- places of operands
 
@@ -108,7 +99,7 @@ module _ (i : Interface) (s : Shape) (is : IsInterface i) where
       eo ea in
       let own : tie_root i s root ≡ root = root_is i s root ro (Some alt) eo found ∙ rw untied refl in
       let free : is_free (Some ro) (Some alt) (Some kind) ≡ true = rw (same, none) refl in
-      and_of (tie_root i s root == root) _ (eq-eqb (tie_root i s root) root own) (rw (eo, found, ek) free)
+      and_from (tie_root i s root == root) _ (eq-eqb (tie_root i s root) root own) (rw (eo, found, ek) free)
 
   root_address : (root : ℕ) (ro : OperandIface) (alt : AltIface) (kind : Kind) → slice_get i.operands root ≡ Some ro
       → alternative_at (slice_get i.operands root) s.alternative ≡ Some alt → slice_get s.kinds root ≡ Some kind
@@ -117,7 +108,7 @@ module _ (i : Interface) (s : Shape) (is : IsInterface i) where
       let found : slice_get ro.alts s.alternative ≡ Some alt = subst (λ o. alternative_at o s.alternative ≡ Some alt)
       eo ea in
       let own : tie_root i s root ≡ root = root_is i s root ro (Some alt) eo found ∙ rw untied refl in
-      and_of (tie_root i s root == root) _ (eq-eqb (tie_root i s root) root own) (rw (eo, ek, same) refl)
+      and_from (tie_root i s root == root) _ (eq-eqb (tie_root i s root) root own) (rw (eo, ek, same) refl)
 
   from_own : (k : ℕ) (o : OperandIface) → slice_get i.operands k ≡ Some o
       → (ro : Option OperandIface) (ra : Option AltIface) (kind : Option Kind) (fact : OperandFacts)
@@ -169,7 +160,7 @@ module _ (i : Interface) (s : Shape) (p : Placement) (fact : OperandFacts) (own 
   place_there : (fixed : Option Reg) → fact.kind ≡ Kind.Register → fact.fixed ≡ fixed
       → is_register (spot_of p fact.root) ≡ true
       → is_place_fit i s p (elim fixed [ None ↦ Place.Operand fact.root | Some r ↦ Place.Reg r ]) ≡ true
-  place_there None kind e h = and_of (is_register (spot_of p fact.root)) (has_own_place i s fact.root) h (own.register kind e)
+  place_there None kind e h = and_from (is_register (spot_of p fact.root)) (has_own_place i s fact.root) h (own.register kind e)
   place_there (Some r) kind e h = refl
 
   register_there : (slice : Option Slice) → fact.kind ≡ Kind.Register → is_register (spot_of p fact.root) ≡ true
@@ -212,7 +203,7 @@ module _ (i : Interface) (s : Shape) (p : Placement) (fact : OperandFacts) (own 
   by_kind Kind.Number m Spot.Pair kind e fits = absurd fits
   by_kind Kind.Number m (Spot.Memory f) kind e fits = absurd fits
   by_kind Kind.Memory m (Spot.Memory f) kind e fits =
-      memory_there m (and_of (is_memory (spot_of p fact.root)) (has_own_address i s fact.root) (rw e refl) (own.memory kind))
+      memory_there m (and_from (is_memory (spot_of p fact.root)) (has_own_address i s fact.root) (rw e refl) (own.memory kind))
   by_kind Kind.Memory m (Spot.Register r) kind e fits = absurd fits
   by_kind Kind.Memory m Spot.Pair kind e fits = absurd fits
   by_kind Kind.Memory m (Spot.Number n) kind e fits = absurd fits
@@ -327,7 +318,7 @@ module _ (i : Interface) (s : Shape) (p : Placement) where
   operand_own count (LineOperand.Memory k form) h = both_true (is_memory (spot_of p k)) (has_own_address i s k) h
   operand_own count (LineOperand.Address d base index) h =
       let both = both_true (is_number (placed_disp p d)) _ h in
-      and_of (is_base_own i s base) (is_index_own i s index) (base_own base (first_true _ _ both))
+      and_from (is_base_own i s base) (is_index_own i s index) (base_own base (first_true _ _ both))
       (index_own index (both_true _ _ both))
   operand_own count (LineOperand.Label goal) h = refl
 
@@ -335,7 +326,7 @@ module _ (i : Interface) (s : Shape) (p : Placement) where
       → list_all (is_arg_own i s) (map (arg_of count) os) ≡ true
   operands_own count [] h = refl
   operands_own count (o ∷ os) h =
-      and_of (is_arg_own i s (arg_of count o)) _ (operand_own count o (first_true (is_operand_fit o) _ h))
+      and_from (is_arg_own i s (arg_of count o)) _ (operand_own count o (first_true (is_operand_fit o) _ h))
       (operands_own count os (both_true (is_operand_fit o) _ h))
 
   line_placed : (rows : List NameRow) (labels : List Defined) (n count place : ℕ) (before : List Prefix)
@@ -383,7 +374,7 @@ module _ (i : Interface) (s : Shape) (is : IsInterface i) (p : Placement) (lette
   atoms_placed : (xs : List Piece) → AreFit i s p (map atom xs)
   atoms_placed [] = refl
   atoms_placed (x ∷ xs) =
-      and_of (is_leaf_placed p (is_place_fit i s p) (register_fit i s p) (is_memory_fit i s p) (atom x).leaf) _ (atom_placed x)
+      and_from (is_leaf_placed p (is_place_fit i s p) (register_fit i s p) (is_memory_fit i s p) (atom x).leaf) _ (atom_placed x)
       (atoms_placed xs)
 
   readings_placed : (rows : List NameRow) (labels : List Defined) (n count : ℕ) (raws : List (Raw Piece))

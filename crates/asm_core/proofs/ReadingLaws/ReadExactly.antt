@@ -107,8 +107,9 @@ module _ (rows : List NameRow) (i : Interface) (s : Shape) (is : IsInterface i) 
     reads_exactly : (lines : Lines) → lines_under rows i s ps ≡ Ok lines → ReadsExactly rows i s ps lines
     reads_exactly lines read = record {
       each = λ n raw e. (
-          let told = insts_are rows i s ps lines read in
-          let insts : map (inst_of_reading (instruction_count elements)) (readings_of rows elements) ≡ lines.insts = rw (statements-kept i s ps) at told in
+          let of : List (Raw Atom) → List (Option Sym) =
+          λ rs. map (inst_of_reading (instruction_count rs)) (readings_of rows rs) in
+          let insts = sym (ap of (statements-kept i s ps)) ∙ insts_are rows i s ps lines read in
           subst (IsReadAs rows i s raws n raw) (sym (insts_at n raw e) ∙ ap (λ l. optional_at l n) insts) (read_as n raw e)
           );
     }

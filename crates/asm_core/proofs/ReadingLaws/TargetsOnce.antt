@@ -9,6 +9,7 @@ use Rattle.asm_core.specs.Reading.Cut.{Raw, labels_from}
 use Rattle.asm_core.specs.Reading.Chosen.{Class, class_of, allows_label, slot_allows, all_stand, is_memory, first_of_two, size_in, op_in, choice, choice_in, first_choice, suffixed_choice, choice_of}
 use Rattle.asm_core.specs.Reading.Line.{Defined, goal_of, line_of, line_read, place_from, readings_from, readings_of, label_in, target_in, target_of, targets_from, template_raws, lines_under}
 use Rattle.asm_core.specs.Reading.Names.{names}
+use Rattle.asm_core.proofs.ReadingLaws.CutWhole.{first_true, both_true}
 use Rattle.asm_core.proofs.ReadingLaws.InstsRead.{line_choice, insts_are, targets_are}
 use Rattle.asm_core.specs.declared.inst.Op.{Op}
 use Rattle.asm_core.specs.declared.inst.Width.{Width}
@@ -25,14 +26,6 @@ use Rattle.asm_core.specs.declared.reading.LineOperand.{LineOperand}
 use Rattle.asm_core.specs.declared.reading.Reading.{Reading}
 use Rattle.asm_core.specs.declared.lines.JumpTarget.{JumpTarget}
 use Rattle.asm_core.specs.declared.lines.Lines.{Lines}
-
-first_true : (a b : Bool) → (a && b) ≡ true → a ≡ true
-first_true true b h = refl
-first_true false b h = cc
-
-both_true : (a b : Bool) → (a && b) ≡ true → b ≡ true
-both_true true b h = h
-both_true false b h = cc
 
 -- ---- labels by the table of names
 

@@ -1,7 +1,7 @@
 -- Where all instructions of a template are read, its text is there under each placement that names the bytes that they
 -- name.
 use Rattle.std.proofs.Common.{◌≡◌, ℕ, suc, ◌+◌, ◌==◌, ◌&&◌, not, List, [], ◌∷◌, ◌++◌, map, Bool, true, false, cond, Option, None, Some, Result, Ok, Err, refl, sym, subst, ◌∙◌}
-use Rattle.std.proofs.lemmas.Bool.{eqb-true}
+use Rattle.std.proofs.lemmas.Bool.{and_from, not-true}
 use Rattle.std.specs.List.{list_all}
 use Rattle.asm_core.specs.Comments.{kept, comments_of, uncommented}
 use Rattle.asm_core.specs.WellFormed.{IsInterface}
@@ -12,8 +12,8 @@ use Rattle.asm_core.specs.Reading.Operands.{atom_code}
 use Rattle.asm_core.specs.Reading.Facts.{facts_of, atom_of}
 use Rattle.asm_core.specs.Reading.Line.{Defined, goal_of, line_of, place_from, readings_from, readings_of, disp_arg, arg_of, inst_of_reading, template_raws, lines_under}
 use Rattle.asm_core.specs.Reading.UnderShape.{IsLettered}
-use Rattle.asm_core.proofs.ReadingLaws.CutWhole.{is_raw_fit, cut_whole}
-use Rattle.asm_core.proofs.ReadingLaws.HolesCut.{is_held, are_held}
+use Rattle.asm_core.proofs.ReadingLaws.CutWhole.{first_true, both_true, is_raw_fit, cut_whole}
+use Rattle.asm_core.proofs.ReadingLaws.HolesCut.{is_held, are_held, held_free}
 use Rattle.asm_core.proofs.ReadingLaws.HolesRead.{is_held_in, line_read_held}
 use Rattle.asm_core.proofs.ReadingLaws.InstsRead.{line_there, insts_are}
 use Rattle.asm_core.proofs.ReadingLaws.NamesPrinted.{IsThere, is_part_lost, is_leaf_lost, may_be_lost, hole_there}
@@ -31,17 +31,6 @@ use Rattle.asm_core.specs.declared.reading.Atom.{Atom}
 use Rattle.asm_core.specs.declared.reading.LineOperand.{LineOperand}
 use Rattle.asm_core.specs.declared.reading.Sign.{Sign}
 use Rattle.asm_core.specs.declared.lines.Lines.{Lines}
-
-both_true : (a b : Bool) → (a && b) ≡ true → b ≡ true
-both_true true b h = h
-both_true false b h = cc
-
-first_true : (a b : Bool) → (a && b) ≡ true → a ≡ true
-first_true true b h = refl
-first_true false b h = cc
-
-and_of : (a b : Bool) → a ≡ true → b ≡ true → (a && b) ≡ true
-and_of a b ha hb = rw (ha, hb) refl
 
 -- ---- lines whose bytes are named
 
@@ -74,7 +63,7 @@ module _ (p : Placement) where
       → list_all (is_held_in (is_leaf_lost p)) os ≡ true
   operands_held count [] h = refl
   operands_held count (o ∷ os) h =
-      and_of (is_held_in (is_leaf_lost p) o) (list_all (is_held_in (is_leaf_lost p)) os)
+      and_from (is_held_in (is_leaf_lost p) o) (list_all (is_held_in (is_leaf_lost p)) os)
       (operand_held count o (first_true (is_arg_named p (arg_of count o)) _ h))
       (operands_held count os (both_true (is_arg_named p (arg_of count o)) _ h))
 
@@ -110,27 +99,16 @@ module _ (p : Placement) where
       let reading = line_of rows (goal_of labels n) before (place_from from) body in
       let here : inst_of_reading count reading ≡ Some inst = cc in
       let others : map (inst_of_reading count) (readings_from rows labels (n + 1) raws) ≡ map Some insts = cc in
-      and_of (are_atoms_held body) (are_raws_held raws)
+      and_from (are_atoms_held body) (are_raws_held raws)
       (body_held rows labels n count (place_from from) before body inst here
       (first_true (are_bytes_named p inst) _ named))
       (raws_held rows labels (n + 1) count raws insts others (both_true (are_bytes_named p inst) _ named))
 
-  held_free : (x : Atom) → is_held (is_leaf_lost p) x ≡ false → atom_code x ≡ 0
-  held_free x h = by (atom_code x == 0) refl
-    where
-      by : (b : Bool) → (atom_code x == 0) ≡ b → atom_code x ≡ 0
-      by true e = eqb-true (atom_code x) 0 e
-      by false e = let no : true ≡ false = rw e at h in cc
-
   -- so have all holes of the template
   elements_held : (xs : List Atom) → are_raws_held (raws_of atom_code xs) ≡ true → are_atoms_held xs ≡ true
-  elements_held xs h = cut_whole atom_code (is_held (is_leaf_lost p)) held_free xs h
+  elements_held xs h = cut_whole atom_code (is_held (is_leaf_lost p)) (held_free (is_leaf_lost p)) xs h
 
 -- ---- the text
-
-not_true : (b : Bool) → not b ≡ true → b ≡ false
-not_true true h = cc
-not_true false h = refl
 
 module _ (i : Interface) (s : Shape) (is : IsInterface i) (p : Placement) (lettered : IsLettered i s p) (unique : ℕ)
   where
@@ -160,7 +138,7 @@ module _ (i : Interface) (s : Shape) (is : IsInterface i) (p : Placement) (lette
     piece_there true (Piece.Hole k m at) rest h = in_comment k (operand_text i p k m)
     piece_there false (Piece.Hole k m at) rest h =
         let x = atom_of (facts_of i s) (Piece.Hole k m at) in
-        let kept = not_true (is_leaf_lost p x.leaf) (first_true (is_held (is_leaf_lost p) x) _ h) in
+        let kept = not-true (is_leaf_lost p x.leaf) (first_true (is_held (is_leaf_lost p) x) _ h) in
         given k (operand_text i p k m) (hole_there i s is p lettered k m kept)
 
     rest_held : (b : Bool) (x : Piece) (rest : List Piece) → are_atoms_held p (atoms (cond b rest (x ∷ rest))) ≡ true
