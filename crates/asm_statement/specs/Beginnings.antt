@@ -40,14 +40,16 @@ parenthesis opened b =
 -- So do brackets where a statement may begin.
 abbrev pub opened_behind : List Opened → Before → Class → List Opened
 opened_behind opened b OpenParen = opened ++ parenthesis opened b ∷ []
-opened_behind opened b OpenBracket = opened ++ (record { head = false; attributes = is_ready b.ready; block = in_block opened }) ∷ []
+opened_behind opened b OpenBracket = opened ++
+    (record { head = false; attributes = is_ready b.ready; block = in_block opened }) ∷ []
 opened_behind opened b OpenBrace = opened ++ (record { head = false; attributes = false; block = true }) ∷ []
 opened_behind opened b CloseParen = take (length opened - 1) opened
 opened_behind opened b CloseBracket = take (length opened - 1) opened
 opened_behind opened b CloseBrace = take (length opened - 1) opened
 opened_behind opened b _ = opened
 
--- A statement may begin behind the parentheses of `if`, `while`, `for` or `switch`, and one that is outside behind attributes.
+-- A statement may begin behind the parentheses of `if`, `while`, `for` or `switch`, and one that is outside behind
+-- attributes.
 abbrev pub ready_behind_bracket : Option Opened → Ready
 ready_behind_bracket None = Unready
 ready_behind_bracket (Some o) = if o.head then Plain else if o.attributes then Attributed else Unready

@@ -28,7 +28,8 @@ is_head name = same name (codes "if") || same name (codes "while") || same name 
 abbrev pub is_extension : List ℕ → Bool
 is_extension name = same name (codes "__extension__")
 
--- what has parentheses that a statement may follow as one that is outside (C11 6.10.9; GCC manual, "Statement Attributes")
+-- what has parentheses that a statement may follow as one that is outside (C11 6.10.9; GCC manual, "Statement
+-- Attributes")
 abbrev pub is_attribute : List ℕ → Bool
 is_attribute name = same name (codes "__attribute__") || same name (codes "__attribute") || same name (codes "_Pragma")
 

@@ -50,8 +50,8 @@ formed ts keyword (Some parts) = bodies.Parts parts
 abbrev pub body_behind : List ℕ → List Token → ℕ → ℕ → Body
 body_behind text ts keyword paren = if is_open_paren (class_at text ts paren) then formed ts keyword (parts_at text ts (paren + 1)) else outside ts keyword
 
--- The parts, or that the statement is outside: it stands in no open brace, behind attributes or a token that the compiler cuts otherwise, has `goto`, has the beginning of another
--- statement inside its span, or is of another form.
+-- The parts, or that the statement is outside: it stands in no open brace, behind attributes or a token that the
+-- compiler cuts otherwise, has `goto`, has the beginning of another statement inside its span, or is of another form.
 unfoldable pub body_of : List ℕ → List Token → Beginning → Option ℕ → Option ℕ → Body
 body_of text ts b next close =
     if is_nested next close then outside ts b.at

@@ -140,8 +140,8 @@ fn statements_at(
 /// The asm statements of a text with these tokens, in order of place.
 ///
 /// A keyword `asm`, `__asm__` or `__asm` begins one where a statement of C may begin; elsewhere it is the label of a
-/// declaration. One that isn't of this profile's form is answered as outside, and so is one behind attributes or anywhere behind a
-/// token that the compiler cuts otherwise, as a digraph.
+/// declaration. One that isn't of this profile's form is answered as outside, and so is one behind attributes or
+/// anywhere behind a token that the compiler cuts otherwise, as a digraph.
 pub fn statements(alloc: Global, t: &Tokens, text: &[u8]) -> Result<Items<Statement>, Memory>
     requires tokens { tokens_of text.now ≡ Ok t.now.list }
     requires short { length text.now < 4294967295 }

@@ -15,22 +15,39 @@ use Rattle.c_decls.specs.Recovery.{body_behind, has_list, is_identifier_list, la
 
 -- ---- names with commas between them
 
-names-step_more : (f : File) (i : ℕ) → is_name (word_at f i) && is_comma (word_at f (i + 1)) ≡ true → names_step f i tt ≡ More tt (i + 2)
+and-first : (a b : Bool) → a ≡ false → (a && b) ≡ false
+and-first a b e = rw e refl
+
+and-second : (a b : Bool) → b ≡ false → (a && b) ≡ false
+and-second true b e = e
+and-second false b e = refl
+
+and-both : (a b : Bool) → a ≡ true → b ≡ true → (a && b) ≡ true
+and-both a b e g = rw (e, g) refl
+
+names-step_more : (f : File) (i : ℕ) → (is_name (word_at f i) && is_comma (word_at f (i + 1))) ≡ true → names_step f i tt ≡ More tt (i + 2)
 names-step_more f i e = rw e refl
 
-names-step_done : (f : File) (i : ℕ) → is_name (word_at f i) && is_comma (word_at f (i + 1)) ≡ false → names_step f i tt ≡ Done i
+names-step_done : (f : File) (i : ℕ) → (is_name (word_at f i) && is_comma (word_at f (i + 1))) ≡ false → names_step f i tt ≡ Done i
 names-step_done f i e = rw e refl
 
-pub names-done : (f : File) (i : ℕ) → i < length f.tokens → is_name (word_at f i) && is_comma (word_at f (i + 1)) ≡ false → last_name f i ≡ i
+names-done : (f : File) (i : ℕ) → i < length f.tokens → (is_name (word_at f i) && is_comma (word_at f (i + 1))) ≡ false → last_name f i ≡ i
 names-done f i lt e = repeated_done (names_step f) level_stop (length f.tokens) i tt i lt (names-step_done f i e)
 
-pub names-more : (f : File) (i : ℕ) → i < length f.tokens → is_name (word_at f i) && is_comma (word_at f (i + 1)) ≡ true → last_name f i ≡ last_name f (i + 2)
-names-more f i lt e = repeated_more (names_step f) level_stop (length f.tokens) i (i + 2) tt tt lt (omega arith) (names-step_more f i e)
+pub names-no_name : (f : File) (i : ℕ) → i < length f.tokens → is_name (word_at f i) ≡ false → last_name f i ≡ i
+names-no_name f i lt e = names-done f i lt (and-first _ _ e)
+
+pub names-no_comma : (f : File) (i : ℕ) → i < length f.tokens → is_comma (word_at f (i + 1)) ≡ false → last_name f i ≡ i
+names-no_comma f i lt e = names-done f i lt (and-second _ _ e)
+
+pub names-more : (f : File) (i : ℕ) → i < length f.tokens → is_name (word_at f i) ≡ true → is_comma (word_at f (i + 1)) ≡ true → last_name f i ≡ last_name f (i + 2)
+names-more f i lt e g =
+    repeated_more (names_step f) level_stop (length f.tokens) i (i + 2) tt tt lt (omega arith) (names-step_more f i (and-both _ _ e g))
 
 pub names-stop : (f : File) (i : ℕ) → length f.tokens ≤ i → last_name f i ≡ i
 names-stop f i le = repeated_stop (names_step f) level_stop (length f.tokens) i tt le
 
-pub ruleset name_steps = (names-done, names-more, names-stop)
+pub ruleset name_steps = (names-no_name, names-no_comma, names-more, names-stop)
 
 -- ---- lists of identifiers in a group
 

@@ -1,5 +1,5 @@
 -- The bodies of structs, unions and enumerations (C11 6.7.2.1, 6.7.2.2).
-use Rattle.std.specs.Prelude.{ℕ, zero, suc, Bool, ◌&&◌, not, if◌then◌else◌, Option, Some, None, slice_set}
+use Rattle.std.specs.Prelude.{ℕ, zero, suc, Bool, ◌&&◌, if◌then◌else◌, Option, Some, None, slice_set}
 use Rattle.c_types.specs.declared.ctype.CType.{CType, out-CType}
 use Rattle.c_types.specs.declared.ctype.CType.TheOpen.{CType-F}
 use Rattle.c_types.specs.declared.tag.Tag.{Tag}
@@ -22,7 +22,9 @@ use Rattle.c_decls.specs.Enumerators.{enum_declared, is_plain_body}
 -- has no layout
 abbrev pub layout_in : File → ℕ → Bool → Declared → Members → Option Layout
 layout_in f i joined seen m =
-    if m.sized && is_plain_body f i && not (is_packed f (body_place f i)) then layout_of seen.tags (body_place f i) joined m.types else None
+    if is_packed f (body_place f i) then None
+    else if m.sized && is_plain_body f i then layout_of seen.tags (body_place f i) joined m.types
+    else None
 
 -- It has its members and its size from the closing brace on (6.7.2.1, 8).
 abbrev pub tag_of : File → ℕ → Bool → Found → Tag

@@ -1,5 +1,5 @@
 -- Where the walk through a file stands.
-use Rattle.std.specs.Prelude.{ℕ, Bool, false, ◌+◌, ◌-◌, ◌==◌, ◌&&◌, ◌||◌, not, is_some, if◌then◌else◌, Option, Some, None, length, List, [], ◌∷◌, ◌++◌, take, slice_get}
+use Rattle.std.specs.Prelude.{ℕ, Bool, false, ◌+◌, ◌-◌, ◌==◌, ◌||◌, is_some, if◌then◌else◌, Option, Some, None, length, List, [], ◌∷◌, ◌++◌, take, slice_get}
 use Rattle.c_words.specs.File.{File}
 use Rattle.c_words.specs.Words.{word_at, end_at, past_group}
 use Rattle.c_reader.specs.Marks.{is_name, is_open_brace, is_semicolon}
@@ -71,11 +71,13 @@ is_entered f i p = elim (last_frame p.frames) [ None ↦ false | Some frame ↦ 
 
 -- the body of a struct, union or enumeration
 abbrev pub follows_tag : File → ℕ → Bool
-follows_tag f i = is_some (tag_kind (word_at f (i - 1))) || (is_name (word_at f (i - 1)) && is_some (tag_kind (word_at f (i - 2))))
+follows_tag f i =
+    if is_name (word_at f (i - 1)) then is_some (tag_kind (word_at f (i - 2))) else is_some (tag_kind (word_at f (i - 1)))
 
 abbrev pub has_statements : File → ℕ → Bool
 has_statements f i = is_semicolon (word_at f (level_end f stops.Semicolon (i + 1)))
 
 -- Neither a block nor a body, with a semicolon at its level: what is declared in it isn't known (this project's own).
 abbrev pub is_unread : File → ℕ → Place → Bool
-is_unread f i p = is_open_brace (word_at f i) && not (is_entered f i p || follows_tag f i) && has_statements f i
+is_unread f i p =
+    if is_open_brace (word_at f i) then (if is_entered f i p || follows_tag f i then false else has_statements f i) else false

@@ -1,5 +1,5 @@
 -- What is declared in a file, from its first token to its last.
-use Rattle.std.specs.Prelude.{ℕ, ◌+◌, ◌-◌, ◌==◌, ◌&&◌, not, nat_lt, if◌then◌else◌, Option, Some, None, length}
+use Rattle.std.specs.Prelude.{ℕ, Bool, false, ◌+◌, ◌-◌, ◌==◌, ◌&&◌, not, nat_lt, if◌then◌else◌, Option, Some, None, length}
 use Rattle.c_words.specs.File.{File}
 use Rattle.c_words.specs.Words.{word_at, end_at, past_group}
 use Rattle.c_words.specs.declared.word.Word.{Word}
@@ -77,7 +77,7 @@ for_begun f to i at =
 -- In the head of `if`, `while` or `switch` a declaration has a semicolon or an initialiser (C2Y 6.8.5).
 abbrev pub may_declare_in_head : File → ℕ → Bool
 may_declare_in_head f i =
-    is_open_paren (word_at f (i + 1)) && not (closes (word_at f (level_end f stops.Assign (i + 2))))
+    if is_open_paren (word_at f (i + 1)) then not (closes (word_at f (level_end f stops.Assign (i + 2)))) else false
 
 abbrev pub head_begun : File → ℕ → ℕ → At → At
 head_begun f to i at =

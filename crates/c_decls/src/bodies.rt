@@ -34,7 +34,10 @@ fn layout_in(
     ensures sound { IfOk result (λ l. IfSome l (λ laid. IsAlignment laid.align)) }
 {
     let place = body_place(source, i);
-    if !members.sized || !is_plain_body(source, i) || source.is_packed(place) {
+    if source.is_packed(place) {
+        return Ok(None);
+    }
+    if !members.sized || !is_plain_body(source, i) {
         return Ok(None);
     }
     layout(

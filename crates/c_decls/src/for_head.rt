@@ -101,8 +101,10 @@ fn may_declare_in_head(source: &Source<'_>, i: usize) -> bool
     requires { i < 4294967296 }
     ensures { result ≡ may_declare_in_head source.now i }
 {
-    is_open_paren(source.word(i + 1))
-        && !closes(source.word(level_end(source, Stop::Assign, i + 2)))
+    if !is_open_paren(source.word(i + 1)) {
+        return false;
+    }
+    !closes(source.word(level_end(source, Stop::Assign, i + 2)))
 }
 
 /// An `if`, a `while` or a `switch` begins at the index.

@@ -17,7 +17,10 @@ fn last_name(source: &Source<'_>, first: usize) -> usize
 {
     let mut i = first;
     while i < source.len() {
-        if !(is_name(source.word(i)) && is_comma(source.word(i + 1))) {
+        if !is_name(source.word(i)) {
+            return i;
+        }
+        if !is_comma(source.word(i + 1)) {
             return i;
         }
         i += 2;

@@ -91,9 +91,13 @@ impl Place {
         requires { i < 4294967296 }
         ensures { result ≡ is_unread source.now i self.now }
     {
-        is_open_brace(source.word(i))
-            && !(self.is_entered(source, i) || follows_tag(source, i))
-            && has_statements(source, i)
+        if !is_open_brace(source.word(i)) {
+            return false;
+        }
+        if self.is_entered(source, i) || follows_tag(source, i) {
+            return false;
+        }
+        has_statements(source, i)
     }
 
     /// Whether the brace at the index has opened the innermost block.

@@ -29,13 +29,16 @@ asked-more f i to lt =
 
 -- ---- one group more
 
-pub attributes-done : (f : File) (asked : Attributes) (i : ℕ) (r : Asked) → i < length f.tokens → attributes_step f i asked ≡ Done r
+pub attributes-done : (f : File) (asked : Attributes) (i : ℕ) (r : Asked) → i < length f.tokens
+    → attributes_step f i asked ≡ Done r
     → attributes_from f asked i ≡ r
 attributes-done f asked i r lt e = repeated_done (attributes_step f) asked_at_end (length f.tokens) i asked r lt e
 
-pub attributes-more : (f : File) (asked more : Attributes) (i j : ℕ) → i < length f.tokens → i < j → attributes_step f i asked ≡ More more j
+pub attributes-more : (f : File) (asked more : Attributes) (i j : ℕ) → i < length f.tokens → i < j
+    → attributes_step f i asked ≡ More more j
     → attributes_from f asked i ≡ attributes_from f more j
-attributes-more f asked more i j lt further e = repeated_more (attributes_step f) asked_at_end (length f.tokens) i j asked more lt further e
+attributes-more f asked more i j lt further e = repeated_more (attributes_step f) asked_at_end
+    (length f.tokens) i j asked more lt further e
 
 pub attributes-stop : (f : File) (asked : Attributes) (i : ℕ) → length f.tokens ≤ i → attributes_from f asked i ≡ record { attributes = asked; end = i }
 attributes-stop f asked i le = repeated_stop (attributes_step f) asked_at_end (length f.tokens) i asked le

@@ -45,7 +45,8 @@ Pointing = Next Pointers Pointers
 abbrev pub pointed : Pointers → ℕ → Pointers
 pointed p i = record p { end = i }
 
--- with `aligned` or `packed` directly behind a star or a parenthesis the type so far isn't known: gcc counts them in `typeof`
+-- With `aligned` or `packed` directly behind a star or a parenthesis the type so far isn't known: gcc counts them in
+-- `typeof`.
 abbrev pub aligned_type : Attributes → CType → CType
 aligned_type a t = if a.aligned then Unknown else t
 
@@ -55,7 +56,8 @@ with_attributes asked p =
 
 abbrev with_group : File → ℕ → Pointers → Pointing
 with_group f i p =
-    if begins_attribute f i then More (with_attributes (attributes_at f i) p) (attributes_at f i).end else Done (pointed p i)
+    if begins_attribute f i then More (with_attributes (attributes_at f i) p) (attributes_at f i).end
+    else Done (pointed p i)
 
 abbrev with_star : ℕ → Pointers → Bool → Pointing
 with_star i p true = More (record p { ctype = wrapped Pointer p.ctype }) (i + 1)

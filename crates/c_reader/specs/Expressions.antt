@@ -176,8 +176,8 @@ opens_type f seen i = is_open_paren (word_at f i) && begins_type f seen (i + 1)
 abbrev pub spells_void_pointer : File → ℕ → Bool
 spells_void_pointer f i = is_void (word_at f i) && is_star (word_at f (i + 1)) && is_close_paren (word_at f (i + 2))
 
--- Only a number that is 0, which may stand in parentheses, makes one: a 0 that was computed may not be a constant expression
--- of the compiler's.
+-- Only a number that is 0, which may stand in parentheses, makes one: a 0 that was computed may not be a constant
+-- expression of the compiler's.
 abbrev pub spells_zero : File → ℕ → ℕ → Bool
 spells_zero f i end =
     (is_zero_at f i && (end == i + 1)) || (is_open_paren (word_at f i) && is_zero_at f (i + 1) && (end == i + 3))
@@ -192,12 +192,15 @@ qualified plain v = if plain then v else record v { constant = never_null v.cons
 -- the operand begins at the index
 abbrev cast_value : File → Bool → CType → ℕ → Option Typed → Option Typed
 cast_value f plain t i None = None
-cast_value f plain t i (Some x) = typed x.end (option_map (qualified (plain && spells_zero f i x.end)) (cast_of t x.value))
+cast_value f plain t i (Some x) =
+    typed x.end (option_map (qualified (plain && spells_zero f i x.end)) (cast_of t x.value))
 
 abbrev converted_to : File → Inner → Bool → Option TypeName → Option Typed
 converted_to f n plain None = None
 converted_to f n plain (Some t) =
-    if is_close_paren (word_at f t.end) then cast_value f plain t.ctype (t.end + 1) (n.expression levels.Cast (t.end + 1)) else None
+    if is_close_paren (word_at f t.end)
+    then cast_value f plain t.ctype (t.end + 1) (n.expression levels.Cast (t.end + 1))
+    else None
 
 unfoldable pub cast_at : File → Declared → Inner → ℕ → Option Typed
 cast_at f seen n i = if opens_type f seen i then converted_to f n (spells_void_pointer f (i + 1)) (n.type_name (i + 1)) else unary_at f seen n i

@@ -234,7 +234,8 @@ pub fn opens_attribute(source: &Source<'_>, i: usize) -> bool
 
 /// One group of attributes, in any of their spellings.
 fn attributes_step(source: &Source<'_>, i: usize, asked: Attributes) -> Next<Attributes, Asked>
-    requires { i < length source.now.tokens }
+    requires inside { i < length source.now.tokens }
+    requires few { length source.now.tokens < 4294967296 }
     ensures is { result ≡ attributes_step source.now i asked }
     ensures further { IsBehind i result }
     ensures ended { EndsAt i result }

@@ -19,7 +19,8 @@ pub struct Pointers {
     pub end: usize,
 }
 
-/// The type with these attributes directly behind a star or a parenthesis: gcc counts `aligned` and `packed` in `typeof`.
+/// The type with these attributes directly behind a star or a parenthesis: gcc counts `aligned` and `packed` in
+/// `typeof`.
 fn aligned_type(attributes: Attributes, ctype: CType) -> CType
     ensures { result ≡ aligned_type attributes ctype }
 {

@@ -26,7 +26,8 @@ shared_at a b = None
 abbrev pub shared_type : CType → CType → Option CType
 shared_type a b = shared_at (out-CType a) (out-CType b)
 
--- the composite of two types that pointers point to: of types but structs and unions it isn't known, since types have no names here
+-- the composite of two types that pointers point to: of types but structs and unions it isn't known, since types have
+-- no names here
 abbrev composite_at : CType-F CType → CType-F CType → CType
 composite_at (CType-F.Tagged m) (CType-F.Tagged n) = if m == n then types.Tagged m else types.Unknown
 composite_at a b = types.Unknown

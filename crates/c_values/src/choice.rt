@@ -109,7 +109,9 @@ fn selected_as(t: &Scalar, constant: Constant) -> Constant
 
 /// What `condition ? a : b` is (C11 6.5.15).
 ///
-/// Of two pointers that are neither null pointer constants nor `void *`, nor point to one struct or union, it is a pointer to an unknown type. The part that isn't chosen needs no value, though it must be a constant for the whole to be one.
+/// Of two pointers that are neither null pointer constants nor `void *`, nor point to one struct or union, it is a
+/// pointer to an unknown type. The part that isn't chosen needs no value, though it must be a constant for the whole
+/// to be one.
 pub fn conditional_of(alloc: Global, condition: Value, a: Value, b: Value) -> Result<Value, TypeEnd>
     ensures { Gives result (conditional_of condition a b) }
 {

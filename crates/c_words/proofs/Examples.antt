@@ -22,8 +22,11 @@ qualifiers : Are (codes "const" ∷ codes "volatile" ∷ codes "restrict" ∷ co
 unfolding name_word listed_word found
 qualifiers = refl
 
-basic_types : map name_word (codes "void" ∷ codes "char" ∷ codes "short" ∷ codes "int" ∷ codes "long" ∷ codes "float" ∷ codes "double" ∷ codes "signed" ∷ codes "__signed" ∷ codes "__signed__" ∷ codes "unsigned" ∷ codes "_Bool" ∷ [])
-    ≡ map words.Basic (basic.Void ∷ basic.Char ∷ basic.Short ∷ basic.Int ∷ basic.Long ∷ basic.Float ∷ basic.Double ∷ basic.Signed ∷ basic.Signed ∷ basic.Signed ∷ basic.Unsigned ∷ basic.Bool ∷ [])
+basic_types : map name_word (codes "void" ∷ codes "char" ∷ codes "short" ∷ codes "int" ∷ codes "long"
+    ∷ codes "float" ∷ codes "double" ∷ codes "signed" ∷ codes "__signed" ∷ codes "__signed__" ∷ codes "unsigned"
+    ∷ codes "_Bool" ∷ [])
+    ≡ map words.Basic (basic.Void ∷ basic.Char ∷ basic.Short ∷ basic.Int ∷ basic.Long ∷ basic.Float ∷ basic.Double
+    ∷ basic.Signed ∷ basic.Signed ∷ basic.Signed ∷ basic.Unsigned ∷ basic.Bool ∷ [])
 unfolding name_word listed_word found
 basic_types = refl
 
@@ -31,8 +34,10 @@ tags : map name_word (codes "struct" ∷ codes "union" ∷ codes "enum" ∷ []) 
 unfolding name_word listed_word found
 tags = refl
 
-in_declarations : map name_word (codes "typedef" ∷ codes "register" ∷ codes "__extension__" ∷ codes "__builtin_va_list" ∷ codes "__attribute" ∷ codes "__attribute__" ∷ codes "_Static_assert" ∷ [])
-    ≡ words.Typedef ∷ words.Register ∷ words.Extension ∷ words.VaList ∷ words.Attribute ∷ words.Attribute ∷ words.StaticAssert ∷ []
+in_declarations : map name_word (codes "typedef" ∷ codes "register" ∷ codes "__extension__"
+    ∷ codes "__builtin_va_list" ∷ codes "__attribute" ∷ codes "__attribute__" ∷ codes "_Static_assert" ∷ [])
+    ≡ words.Typedef ∷ words.Register ∷ words.Extension ∷ words.VaList ∷ words.Attribute ∷ words.Attribute
+    ∷ words.StaticAssert ∷ []
 unfolding name_word listed_word found
 in_declarations = refl
 
@@ -60,12 +65,16 @@ jumps : Are (codes "goto" ∷ codes "return" ∷ codes "break" ∷ codes "contin
 unfolding name_word listed_word found
 jumps = refl
 
-uncovered : Are (codes "_Atomic" ∷ codes "_Thread_local" ∷ codes "__thread" ∷ codes "_Alignas" ∷ codes "_Complex" ∷ codes "__complex" ∷ codes "__complex__" ∷ codes "_Imaginary" ∷ codes "__int128" ∷ codes "__int128_t" ∷ codes "__uint128_t" ∷ [])
+uncovered : Are (codes "_Atomic" ∷ codes "_Thread_local" ∷ codes "__thread" ∷ codes "_Alignas" ∷ codes "_Complex"
+    ∷ codes "__complex" ∷ codes "__complex__" ∷ codes "_Imaginary" ∷ codes "__int128" ∷ codes "__int128_t"
+    ∷ codes "__uint128_t" ∷ [])
     words.Uncovered
 unfolding name_word listed_word found
 uncovered = refl
 
-uncovered_others : Are (codes "__auto_type" ∷ codes "__label__" ∷ codes "_BitInt" ∷ codes "typeof_unqual" ∷ codes "__typeof_unqual" ∷ codes "__typeof_unqual__" ∷ codes "_Float128" ∷ codes "_Float32x" ∷ codes "__float80" ∷ codes "_Decimal64" ∷ [])
+uncovered_others : Are (codes "__auto_type" ∷ codes "__label__" ∷ codes "_BitInt" ∷ codes "typeof_unqual"
+    ∷ codes "__typeof_unqual" ∷ codes "__typeof_unqual__" ∷ codes "_Float128" ∷ codes "_Float32x"
+    ∷ codes "__float80" ∷ codes "_Decimal64" ∷ [])
     words.Uncovered
 unfolding name_word listed_word found
 uncovered_others = refl

@@ -8,7 +8,8 @@ pub pack-none : (s : Sought) (i : ℕ) (text : List ℕ) → length text ≤ i �
 unfolding pack_from
 pack-none s i text le = rw (drop_all i text le) refl
 
-pub pack-here : (s : Sought) (i : ℕ) (text : List ℕ) → i < length text → is_at_pack s (drop i text) ≡ true → pack_from s i (drop i text) ≡ Some i
+pub pack-here : (s : Sought) (i : ℕ) (text : List ℕ) → i < length text → is_at_pack s (drop i text) ≡ true
+    → pack_from s i (drop i text) ≡ Some i
 unfolding pack_from
 pack-here s i text lt = rw (drop_more text i 0 lt) (λ e. rw e refl)
 

@@ -1,4 +1,5 @@
--- The first `#pragma pack` of a text (GCC manual, "Structure-Layout Pragmas"). Tokens don't show it: its line is white space.
+-- The first `#pragma pack` of a text (GCC manual, "Structure-Layout Pragmas"). Tokens don't show it: its line is
+-- white space.
 use Rattle.std.specs.Prelude.{ℕ, Bool, true, false, List, [], ◌∷◌, ◌+◌, ◌-◌, ◌==◌, ◌||◌, ◌&&◌, nat_eq, nat_lt, if◌then◌else◌, Option, Some, None, codes, slice_index}
 use Rattle.std.specs.List.{starts_with}
 use Rattle.c_words.specs.declared.pragma.Sought.{Sought}
@@ -25,7 +26,8 @@ sought_behind s bytes = elim s [
   | sought.Pack ↦ between_words (slice_index bytes 0) bytes
   | sought.Slash ↦ if slice_index bytes 0 == 42 then sought.Comment else at_pragma bytes
   | sought.Comment ↦ if slice_index bytes 0 == 42 then sought.Star else sought.Comment
-  | sought.Star ↦ if slice_index bytes 0 == 47 then sought.Pack else if slice_index bytes 0 == 42 then sought.Star else sought.Comment
+  | sought.Star ↦ if slice_index bytes 0 == 47 then sought.Pack else if slice_index bytes 0 == 42 then sought.Star
+      else sought.Comment
   | sought.Backslash ↦ if slice_index bytes 0 == 10 then sought.Pack else at_pragma bytes
 ]
 

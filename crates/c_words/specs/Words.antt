@@ -77,7 +77,8 @@ unfoldable pub behind_asm_label : File → ℕ → ℕ
 behind_asm_label file i = if opens_label (word_at file i) (word_at file (i + 1)) then past_group file (i + 1) else i
 
 -- What a source has found: each token's word, what closes each bracket, and the first `#pragma pack`.
-pub record IsRead (text : List ℕ) (tokens : List Token) (words : List Word) (closers : List (Option ℕ)) (pack : Option ℕ) : Type 0 where
+pub record IsRead (text : List ℕ) (tokens : List Token) (words : List Word) (closers : List (Option ℕ))
+    (pack : Option ℕ) : Type 0 where
   pub short : length text < 4294967296
   pub few : length tokens < 4294967296
   pub each_word : words ≡ map (word_of text) tokens

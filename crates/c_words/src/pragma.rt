@@ -74,7 +74,8 @@ impl Sought {
     }
 }
 
-/// The offset of the first `pack` that stands behind `pragma`, blanks, comments, spliced lines, `(` and `"` between them.
+/// The offset of the first `pack` that stands behind `pragma`, blanks, comments, spliced lines, `(` and `"` between
+/// them.
 #[tactic(auto, using(crate::proofs::PragmaLemmas::pack_steps))]
 pub fn pack_of(text: &[u8]) -> Option<u32>
     requires { length text.now < 4294967295 }

@@ -14,8 +14,8 @@ use c_tokens::{Token, Tokens, closers};
 use std::alloc::Global;
 use std::marker::Model;
 
-/// A file's tokens by their index, with what each is to the grammar, what closes each bracket, and where layouts begin to be
-/// unknown, found once.
+/// A file's tokens by their index, with what each is to the grammar, what closes each bracket, and where layouts
+/// begin to be unknown, found once.
 /// Contracts see the text and its tokens. Past the last token there is none, which every call answers in its way.
 #[derive(Debug, Drop)]
 pub struct Source<'a> {
