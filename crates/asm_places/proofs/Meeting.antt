@@ -1,5 +1,7 @@
 -- Placements in which two places use a register, and the operands that have to use it.
-use Rattle.std.proofs.Common.{◌≡◌, inl, inr, ℕ, ◌+◌, ◌<◌, ◌≤◌, IfSome, IfNone, slice_index_or, ◌==◌, ◌||◌, not, [], ◌∷◌, ◌++◌, Bool, true, false, Option, None, Some, refl, sym, ap, subst, ◌∙◌, arith, if◌then◌else◌}
+use Rattle.std.proofs.Common.{◌≡◌, ◌↔◌, inl, inr, IsTrue, ℕ, ◌+◌, ◌<◌, ◌≤◌, IfSome, IfNone, pos, List, length, map, slice_index_or, ◌==◌, ◌||◌, not, [], ◌∷◌, ◌++◌, Bool, true, false, Option, None, Some, refl, sym, ap, subst, ◌∙◌, arith, if◌then◌else◌}
+use Rattle.std.specs.List.{range_with_len}
+use Rattle.std.proofs.lemmas.List.FromFn.{get_or-map-range_with_len}
 use Rattle.std.proofs.lemmas.Bool.{or_cases, or_left, or_right, eqb-true, eq-eqb, both_ways, cases_eq}
 use Rattle.asm_core.specs.Reg.{reg_number}
 use Rattle.asm_core.specs.Lists.{IsMember}
@@ -9,19 +11,28 @@ use Rattle.asm_core.specs.declared.reg.Reg.{Reg}
 use Rattle.asm_core.specs.declared.sym.Place.{Place}
 use Rattle.asm_core.specs.declared.shape.Shape.{Shape}
 use Rattle.asm_core.specs.declared.interface.Interface.{Interface}
+use Rattle.asm_core.specs.declared.placement.Spot.{Spot}
 use Rattle.asm_core.specs.declared.placement.Placement.{Placement}
 use Rattle.asm_core.proofs.RegisterLaws.{same_reg}
 use Rattle.asm_places.specs.Operand.{operand_in}
-use Rattle.asm_places.specs.Classes.{is_asked, asked_of}
-use Rattle.asm_places.specs.Placing.{IsLeastPlaced, HasNoAssignment}
-use Rattle.asm_places.specs.Sharing.{is_other, operand_of, IsSharedIn}
+use Rattle.asm_places.specs.Classes.{AreClasses, is_asked, asked_of}
+use Rattle.register_search.specs.Assignment.{IsAssignment}
+use Rattle.register_search.specs.declared.class.Class.{Class}
+use Rattle.asm_places.specs.Placing.{spot_for, IsPlacedBy, IsLeastPlaced, HasAssignmentFor, HasNoAssignment}
+use Rattle.asm_places.specs.Sharing.{is_other, operand_of, IsSharedIn, CanShareIn, CanShare}
 use Rattle.asm_places.specs.declared.goal.Asked.{Asked}
+use Rattle.asm_places.specs.declared.goal.Goal.{Goal}
 use Rattle.asm_places.specs.declared.goal.Goal.TheVariants.{Use}
 use Rattle.asm_places.specs.declared.operand.ShapedOperand.{ShapedOperand}
 use Rattle.asm_places.proofs.Shaped.{in_shape, operand_is}
 use Rattle.asm_places.proofs.FromPlacement.{AreUsed, choices_from, allowed_assigns}
 use Rattle.asm_places.proofs.ToPlacement.{use_allowed, use_used}
 use Rattle.asm_places.proofs.Sound.{IsSound, root_of}
+
+-- where a choice puts operand k
+abbrev spot_at : Interface → Shape → Goal → (ℕ → ℕ) → ℕ → Spot
+spot_at i s goal choice_of k =
+    spot_for goal (tie_root i s k) (operand_in i s (tie_root i s k)) (choice_of (tie_root i s k))
 
 -- what is asked of the operands for two places and a register
 abbrev pub asked_for : Interface → Shape → Place → Place → Reg → Asked
@@ -61,16 +72,53 @@ asked_first a k e = ap (λ b. if b then Some a.register else None) (or_left (is_
 asked_second : (a : Asked) (k : ℕ) → a.second ≡ Some k → asked_of (Use a) k ≡ Some a.register
 asked_second a k e = ap (λ b. if b then Some a.register else None) (or_right (is_asked a.first k) (is_asked a.second k) (ap (λ o. is_asked o k) e ∙ eq-eqb k k refl))
 
-pub placed_shares : (i : Interface) (s : Shape) (p q : Place) (r : Reg) (at : Placement) → IsSound i s → IsPlaceOf i p → IsPlaceOf i q → is_other p r ≡ false → is_other q r ≡ false
-    → IsLeastPlaced i s (Use (asked_for i s p q r)) at → IsSharedIn i s p q r at
-placed_shares i s p q r at sound is_p is_q other_p other_q l =
+-- a placement by the choices of an assignment
+pub assigned_shares : (i : Interface) (s : Shape) (p q : Place) (r : Reg) (at : Placement) → IsSound i s → IsPlaceOf i p
+    → IsPlaceOf i q → is_other p r ≡ false → is_other q r ≡ false → (classes : List Class)
+    → AreClasses i s (Use (asked_for i s p q r)) classes → (choice_of : ℕ → ℕ) → IsAssignment classes choice_of
+    → IsPlacedBy i s (Use (asked_for i s p q r)) choice_of at → IsSharedIn i s p q r at
+assigned_shares i s p q r at sound is_p is_q other_p other_q classes are choice_of assigned placed =
     let asked = asked_for i s p q r in
-    let allowed = use_allowed i s asked sound l.classes l.are l.choice_of l.least.assigned at l.placed in
-    let used = use_used i s asked sound l.classes l.are l.choice_of l.least.assigned at l.placed in
+    let allowed = use_allowed i s asked sound classes are choice_of assigned at placed in
+    let used = use_used i s asked sound classes are choice_of assigned at placed in
     record {
       allowed = allowed;
-      first = place_uses i s at p r sound is_p allowed other_p (λ k x e is untied. used.each k x is untied r (asked_first asked k e));
-      second = place_uses i s at q r sound is_q allowed other_q (λ k x e is untied. used.each k x is untied r (asked_second asked k e));
+      first = place_uses i s at p r sound is_p allowed other_p
+          (λ k x e is untied. used.each k x is untied r (asked_first asked k e));
+      second = place_uses i s at q r sound is_q allowed other_q
+          (λ k x e is untied. used.each k x is untied r (asked_second asked k e));
+    }
+
+pub placed_shares : (i : Interface) (s : Shape) (p q : Place) (r : Reg) (at : Placement) → IsSound i s → IsPlaceOf i p
+    → IsPlaceOf i q → is_other p r ≡ false → is_other q r ≡ false
+    → IsLeastPlaced i s (Use (asked_for i s p q r)) at → IsSharedIn i s p q r at
+placed_shares i s p q r at sound is_p is_q other_p other_q l =
+    assigned_shares i s p q r at sound is_p is_q other_p other_q l.classes l.are l.choice_of l.least.assigned l.placed
+
+-- the placement by some choices
+abbrev placed_at : (i : Interface) (s : Shape) (goal : Goal) → (ℕ → ℕ) → Placement
+placed_at i s goal choice_of = record {
+  spots = map (spot_at i s goal choice_of) (range_with_len 0 30);
+  count = length i.operands;
+}
+
+is_placed : (i : Interface) (s : Shape) (goal : Goal) (choice_of : ℕ → ℕ)
+    → IsPlacedBy i s goal choice_of (placed_at i s goal choice_of)
+is_placed i s goal choice_of = record {
+  count = refl;
+  spots = λ k below.
+      get_or-map-range_with_len (spot_at i s goal choice_of) 0 30 k k (Spot.Number (pos 0)) below (omega arith);
+}
+
+-- an assignment gives one
+pub assignment_shares : (i : Interface) (s : Shape) (p q : Place) (r : Reg) → IsSound i s → IsPlaceOf i p
+    → IsPlaceOf i q → is_other p r ≡ false → is_other q r ≡ false → HasAssignmentFor i s (Use (asked_for i s p q r))
+    → CanShareIn i s p q r
+assignment_shares i s p q r sound is_p is_q other_p other_q h =
+    let goal = Use (asked_for i s p q r) in record {
+      at = placed_at i s goal h.some.0;
+      shared = assigned_shares i s p q r (placed_at i s goal h.some.0) sound is_p is_q other_p other_q
+          h.classes h.are h.some.0 h.some.1 (is_placed i s goal h.some.0);
     }
 
 -- ---- and the other way round
@@ -156,3 +204,27 @@ meet_in_none i s p q count all none at shared =
 
 pub shared_in : (i : Interface) (s : Shape) (p q : Place) (r : Reg) (at : Placement) → IsSharedIn i s p q r at → ShareRegister i s p q at
 shared_in i s p q r at shared = record { allowed = shared.allowed; register = r; in_first = shared.first; in_second = shared.second }
+
+-- places that meet in the register, which neither is apart from
+pub meets_in : (i : Interface) (s : Shape) (p q : Place) (r : Reg) → CanShareIn i s p q r → CanShare i s p q
+meets_in i s p q r can = record { at = can.at; shared = shared_in i s p q r can.at can.shared }
+
+pub apart_first : (i : Interface) (s : Shape) (p q : Place) (r : Reg) → is_other p r ≡ true → CanShareIn i s p q r → ⊥
+apart_first i s p q r other can = other_apart can.at p r other can.shared.first
+
+pub apart_second : (i : Interface) (s : Shape) (p q : Place) (r : Reg) → is_other q r ≡ true → CanShareIn i s p q r → ⊥
+apart_second i s p q r other can = other_apart can.at q r other can.shared.second
+
+-- an answer that is told in both ways
+pub answers : {P Q C : Type 0} (b : Bool) → (IsTrue b → P) → (b ≡ false → Q) → (P → C) → (Q → C → ⊥) → IsTrue b ↔ C
+answers true some none meets apart = ((λ is. meets (some is)), (λ can. refl))
+answers false some none meets apart = ((λ is. cc), (λ can. absurd (apart (none refl) can)))
+
+-- no register has both places
+pub meets_nowhere : (i : Interface) (s : Shape) (p q : Place) (count : ℕ) → 7 ≤ count → MeetInNone i s p q count
+    → CanShare i s p q → ⊥
+meets_nowhere i s p q count all none can = meet_in_none i s p q count all none can.at can.shared
+
+pub meets_nowhere_in : (i : Interface) (s : Shape) (p q : Place) (r : Reg)
+    → HasNoAssignment i s (Use (asked_for i s p q r)) → CanShareIn i s p q r → ⊥
+meets_nowhere_in i s p q r h can = none_shares i s p q r h can.at can.shared

@@ -62,6 +62,12 @@ pub record IsLeastPlaced (i : Interface) (s : Shape) (goal : Goal) (p : Placemen
   pub least : IsLeast classes choice_of
   pub placed : IsPlacedBy i s goal choice_of p
 
+-- the classes have an assignment
+pub record HasAssignmentFor (i : Interface) (s : Shape) (goal : Goal) : Type 0 where
+  pub classes : List Class
+  pub are : AreClasses i s goal classes
+  pub some : HasAssignment classes
+
 pub record HasNoAssignment (i : Interface) (s : Shape) (goal : Goal) : Type 0 where
   pub classes : List Class
   pub are : AreClasses i s goal classes

@@ -3,7 +3,7 @@ use Rattle.std.specs.Prelude.{ℕ, ◌==◌, not, Bool, false, Option, None, Som
 use Rattle.asm_core.specs.Reg.{reg_number}
 use Rattle.asm_core.specs.Lists.{IsMember}
 use Rattle.asm_core.specs.Placement.{IsAllowed, tie_root}
-use Rattle.asm_core.specs.Roomy.{place_registers}
+use Rattle.asm_core.specs.Roomy.{place_registers, ShareRegister}
 use Rattle.asm_core.specs.declared.reg.Reg.{Reg}
 use Rattle.asm_core.specs.declared.sym.Place.{Place}
 use Rattle.asm_core.specs.declared.shape.Shape.{Shape}
@@ -25,3 +25,13 @@ pub record IsSharedIn (i : Interface) (s : Shape) (p q : Place) (r : Reg) (at : 
   pub allowed : IsAllowed i s at
   pub first : IsMember r (place_registers at p)
   pub second : IsMember r (place_registers at q)
+
+-- some allowed placement has both places in that register
+pub record CanShareIn (i : Interface) (s : Shape) (p q : Place) (r : Reg) : Type 0 where
+  pub at : Placement
+  pub shared : IsSharedIn i s p q r at
+
+-- some allowed placement has both places in one register
+pub record CanShare (i : Interface) (s : Shape) (p q : Place) : Type 0 where
+  pub at : Placement
+  pub shared : ShareRegister i s p q at

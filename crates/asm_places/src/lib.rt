@@ -15,4 +15,4 @@ pub use company::{same_in_register, same_of_operand};
 pub use listing::{ShapesEnd, shapes};
 pub use places::all_places;
 pub use placing::room;
-pub use sharing::may_share;
+pub use sharing::{can_share, may_share};

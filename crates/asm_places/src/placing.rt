@@ -1,4 +1,4 @@
-ghost use Rattle.std.specs.Prelude.{◌≡◌, ℕ, ◌<◌, ◌≤◌, length, slice_get, unwrap_or, IfSome, IfNone};
+ghost use Rattle.std.specs.Prelude.{◌≡◌, ℕ, ◌<◌, ◌≤◌, length, slice_get, unwrap_or, false, IsTrue, IfSome, IfNone};
 ghost use Rattle.asm_core.specs.Lists.{IsMember};
 ghost use Rattle.asm_core.specs.Shape.{shapes_of};
 ghost use Rattle.asm_core.specs.Placement.{IsRoomy};
@@ -7,7 +7,7 @@ ghost use Rattle.asm_core.specs.WellFormed.{IsInterface};
 ghost use Rattle.asm_core.specs.declared.placement.Placement.{Placement};
 ghost use Rattle.register_search.specs.Assignment.{IsLeast};
 ghost use Rattle.asm_places.specs.Operand.{operand_in};
-ghost use Rattle.asm_places.specs.Placing.{IsPlacedBy, IsLeastPlaced, HasNoAssignment, left_in, choice_spot, memory_spot, lower_end, kind_spot, spot_for};
+ghost use Rattle.asm_places.specs.Placing.{IsPlacedBy, IsLeastPlaced, HasAssignmentFor, HasNoAssignment, left_in, choice_spot, memory_spot, lower_end, kind_spot, spot_for};
 
 use crate::classes::classes_of;
 use crate::goal::Goal;
@@ -40,6 +40,14 @@ pub(crate) fn least_placement(i: &Interface, s: &Shape, goal: &Goal) -> Option<P
     }
     settle(&mut classes);
     Some(placement_by(i, s, goal, &classes))
+}
+
+/// Whether the classes have an assignment.
+pub(crate) fn has_placement(i: &Interface, s: &Shape, goal: &Goal) -> bool
+    ensures some { IsTrue result → HasAssignmentFor i.now s.now goal.now }
+    ensures none { result ≡ false → HasNoAssignment i.now s.now goal.now }
+{
+    has_assignment(&classes_of(i, s, goal))
 }
 
 fn placement_by(i: &Interface, s: &Shape, goal: &Goal, classes: &[Class]) -> Placement

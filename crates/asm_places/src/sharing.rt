@@ -1,14 +1,14 @@
-ghost use Rattle.std.specs.Prelude.{◌≡◌, ℕ, ◌<◌, ◌≤◌, length, IfSome, IfNone};
+ghost use Rattle.std.specs.Prelude.{◌≡◌, ◌↔◌, ℕ, ◌<◌, ◌≤◌, length, IsTrue, IfSome, IfNone};
 ghost use Rattle.asm_core.specs.Lists.{IsMember};
 ghost use Rattle.asm_core.specs.Shape.{shapes_of};
 ghost use Rattle.asm_core.specs.Roomy.{ShareRegister, IsPlaceOf};
 ghost use Rattle.asm_core.specs.WellFormed.{IsInterface};
 ghost use Rattle.asm_core.specs.declared.placement.Placement.{Placement};
-ghost use Rattle.asm_places.specs.Sharing.{IsSharedIn, is_other, operand_of};
+ghost use Rattle.asm_places.specs.Sharing.{IsSharedIn, CanShareIn, CanShare, is_other, operand_of};
 
 use crate::goal::{Asked, Goal};
 use crate::operand::tie_root;
-use crate::placing::least_placement;
+use crate::placing::{has_placement, least_placement};
 use asm_core::{Interface, Place, Placement, Reg, Shape};
 
 const REGISTERS: [Reg; 7] = [
@@ -62,6 +62,44 @@ fn sharing_in(i: &Interface, s: &Shape, p: Place, q: Place, register: Reg) -> Op
         second: operand_of(i, s, q),
     };
     least_placement(i, s, &Goal::Use(asked))
+}
+
+/// Whether the two places use one register in some allowed placement, as `may_share` gives one.
+pub fn can_share(i: &Interface, s: &Shape, p: Place, q: Place) -> bool
+    requires interface { IsInterface i.now }
+    requires shape { IsMember s.now (shapes_of i.now) }
+    requires first { IsPlaceOf i.now p }
+    requires second { IsPlaceOf i.now q }
+    ensures { IsTrue result ↔ CanShare i.now s.now p q }
+{
+    for register in &REGISTERS {
+        if can_share_in(i, s, p, q, *register) {
+            return true;
+        }
+    }
+    false
+}
+
+/// Whether both places use the register in some allowed placement.
+fn can_share_in(i: &Interface, s: &Shape, p: Place, q: Place, register: Reg) -> bool
+    requires interface { IsInterface i.now }
+    requires shape { IsMember s.now (shapes_of i.now) }
+    requires first { IsPlaceOf i.now p }
+    requires second { IsPlaceOf i.now q }
+    ensures { IsTrue result ↔ CanShareIn i.now s.now p q register }
+{
+    if is_other(p, register) {
+        return false;
+    }
+    if is_other(q, register) {
+        return false;
+    }
+    let asked = Asked {
+        register,
+        first: operand_of(i, s, p),
+        second: operand_of(i, s, q),
+    };
+    has_placement(i, s, &Goal::Use(asked))
 }
 
 /// Whether the place is another register.

@@ -1,16 +1,16 @@
 -- The live shapes among all.
-use Rattle.std.proofs.Common.{◌≡◌, inl, inr, ◌↔◌, ℕ, ◌+◌, ◌<◌, List, [], ◌∷◌, ◌++◌, length, get_or, take, Bool, true, false, IsTrue, Option, Some, None, IfSome, IfNone, is_some, Result, Ok, Err, IfOk, All, refl, sym, ap, ◌∙◌, subst}
+use Rattle.std.proofs.Common.{◌≡◌, inl, inr, ◌↔◌, ℕ, ◌+◌, ◌<◌, List, [], ◌∷◌, ◌++◌, length, get_or, take, Bool, true, false, IsTrue, Option, Some, None, Result, Ok, Err, IfOk, All, refl, sym, ap, ◌∙◌, subst}
 use Rattle.std.proofs.lemmas.List.{take_more}
 use Rattle.std.proofs.lemmas.List.Elements.{All-nil, All-cons}
 use Rattle.asm_core.specs.Lists.{IsMember}
-use Rattle.asm_core.specs.Roomy.{ShareRegister, IsPlaceOf}
+use Rattle.asm_core.specs.Roomy.{IsPlaceOf}
 use Rattle.asm_core.specs.Shape.{IsLive, shapes_of}
 use Rattle.asm_core.specs.declared.memory.Memory.{Memory}
 use Rattle.asm_core.specs.declared.reg.Reg.{Reg}
 use Rattle.asm_core.specs.declared.sym.Place.{Place}
 use Rattle.asm_core.specs.declared.shape.Shape.{Shape}
 use Rattle.asm_core.specs.declared.interface.Interface.{Interface}
-use Rattle.asm_core.specs.declared.placement.Placement.{Placement}
+use Rattle.asm_places.specs.Sharing.{CanShare}
 use Rattle.blk_check.specs.Readable.{AreLive}
 
 abbrev eax : Place
@@ -22,9 +22,14 @@ eax_place i = record { is_operand = λ k is. cc }
 
 module _ (i : Interface) where
   -- a place shares its register with itself wherever a placement is allowed
-  pub answered : (s : Shape) (r : Option Placement) → IfSome r (ShareRegister i s eax eax) → IfNone r ((p : Placement) → ShareRegister i s eax eax p → ⊥) → IsTrue (is_some r) ↔ IsLive i s
-  answered s (Some p) shared none = ((λ yes. (p, shared.allowed)), (λ live. refl))
-  answered s None shared none = ((λ yes. cc), (λ live. absurd (none live.0 (record { allowed = live.1; register = Reg.Eax; in_first = inl refl; in_second = inl refl }))))
+  pub answered : (s : Shape) (found : Bool) → IsTrue found ↔ CanShare i s eax eax → IsTrue found ↔ IsLive i s
+  answered s found told = (
+    (λ yes. let can = told.0 yes in (can.at, can.shared.allowed)),
+    (λ live. told.1 (record {
+      at = live.0;
+      shared = record { allowed = live.1; register = Reg.Eax; in_first = inl refl; in_second = inl refl };
+    })),
+  )
 
   pub live_more : (ss live : List Shape) (s : Shape) → AreLive i ss live → IsLive i s → AreLive i (ss ++ s ∷ []) (live ++ s ∷ [])
   unfolding AreLive

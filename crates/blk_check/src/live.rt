@@ -7,7 +7,7 @@ ghost use Rattle.asm_core.specs.WellFormed.{IsInterface};
 ghost use Rattle.blk_check.specs.Readable.{AreLive};
 
 use asm_core::{Duplicate, Interface, Items, Memory, Place, Reg, Shape};
-use asm_places::may_share;
+use asm_places::can_share;
 use std::alloc::Global;
 
 /// Any one place, which shares its register with itself wherever a placement is allowed.
@@ -20,7 +20,7 @@ fn is_live(interface: &Interface, shape: &Shape) -> bool
     requires shape { IsMember shape.now (shapes_of interface.now) }
     ensures { IsTrue result ↔ IsLive interface.now shape.now }
 {
-    may_share(interface, shape, SOME_PLACE, SOME_PLACE).is_some()
+    can_share(interface, shape, SOME_PLACE, SOME_PLACE)
 }
 
 /// The shapes that have an allowed placement, in their order.

@@ -40,6 +40,7 @@ use Rattle.blk_deps.specs.declared.line.LineMoves.{LineMoves}
 use Rattle.blk_deps.specs.declared.violation.Violation.{Violation}
 use Rattle.blk_deps.specs.declared.walk.Walk.{Walk}
 use Rattle.blk_deps.specs.Walking.{IsWalk, setting_in}
+use Rattle.blk_deps.specs.Listing.{AreOfPairs}
 use Rattle.blk_deps.specs.Ground.{IsContext}
 use Rattle.blk_deps.specs.Blocks.{AreBlocks}
 use Rattle.blk_deps.specs.Ruling.{AreMasks}
@@ -304,8 +305,10 @@ module _ (w : Walk) where
   pub is_walk : IsContext context → IsInterface interface → IsSmall interface → IsMember context.shape.now (shapes_of interface) → IsGraph w.flow.graph.now → AreDepths w.flow.graph.now w.flow.depths.now
       → IsLayout w.flow.layout.now → w.flow.layout.now.operands ≡ length interface.operands → length w.flow.sharers.now ≡ 7 + length interface.operands
       → AreMovesOf context w.flow.graph.now w.flow.depths.now w.flow.moves.now → All (FitsMoves w.flow.layout.now) w.flow.moves.now
-      → AreBlocks (size_of w.flow.graph.now) (goes w.flow.graph.now) w.flow.blocks.now → AreMasks context.ground.now.names w.names.now.masks → w.violations.now ≡ violations_of interface → IsWalk w
-  is_walk known is small member graph depths layout operands sharers moves fit blocks names violations = record {
+      → AreBlocks (size_of w.flow.graph.now) (goes w.flow.graph.now) w.flow.blocks.now
+      → AreMasks context.ground.now.names w.names.now.masks → w.violations.now ≡ violations_of interface
+      → AreOfPairs w.violations.now w.pairs → IsWalk w
+  is_walk known is small member graph depths layout operands sharers moves fit blocks names violations pairs = record {
     flow = record {
       graph = graph;
       layout = layout;
@@ -319,6 +322,7 @@ module _ (w : Walk) where
     interface = is;
     depths = depths.count;
     names = names;
+    pairs = pairs;
     about = about_each interface w.violations.now violations;
     moves = moves.each;
   }

@@ -60,4 +60,6 @@ pub mod SharingLaws
 pub mod SameLaws
 pub mod JudgedLaws
 pub mod PathsNoted
+pub mod StraightPaths
+pub mod PairsPassed
 pub mod StackFound

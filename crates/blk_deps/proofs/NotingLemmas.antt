@@ -157,6 +157,24 @@ module _ (test : Violation → Bool) (line : ℕ) (some_line : 0 < line) (vs : L
       rest : (t : ℕ) → k + 1 ≤ t → slice_index new t ≡ slice_index old t
       rest t le = other t (λ e. omega (arith, e, le)) ∙ so.rest t (omega (arith, le))
 
+  -- those that aren't broken are passed over
+  pub noted_over : (k next : ℕ) (old mid : List ℕ) → k ≤ next
+      → ((t : ℕ) (v : Violation) → k ≤ t → t < next → slice_get vs t ≡ Some v → test v ≡ false)
+      → IsNotedTo (BreaksOn test line) vs k old mid → IsNotedTo (BreaksOn test line) vs next old mid
+  noted_over k next old mid le none so = record {
+    same_length = so.same_length;
+    each = each;
+    rest = λ t past. so.rest t (omega (arith, le, past));
+  }
+    where
+      each : (t : ℕ) (v : Violation) → t < next → slice_get vs t ≡ Some v
+          → IsLeastOf (BreaksOn test line v) (slice_index old t) (slice_index mid t)
+      each t v below at = elim (cases_lt t k) [
+        | inl lt ↦ so.each t v lt at
+        | inr ge ↦ subst (IsLeastOf (BreaksOn test line v) (slice_index old t)) (sym (so.rest t ge))
+            (same_entry (slice_index old t) (λ on p. false≢true (sym (none t v ge below at) ∙ p.1)))
+      ]
+
 -- ---- the list
 
 pub least_in : (P : ℕ → Type 0) (e : ℕ) → IsLeastOf P 0 e → IsLeastIn P (line_of e)

@@ -9,15 +9,13 @@ use Rattle.std.proofs.lemmas.Bool.Decides.{nat_tests}
 use Rattle.std.proofs.lemmas.Nat.{mul-le}
 use Rattle.std.proofs.lemmas.Option.{slice_get_within, get_or_from_slice_get}
 use Rattle.asm_core.specs.declared.sym.Sym.{Sym}
-use Rattle.dataflow.specs.Working.{row_in}
-use Rattle.dataflow.specs.declared.work.Work.{Work}
 use Rattle.blk_deps.specs.Facts.{Facts}
 use Rattle.blk_deps.specs.Ways.{size_of, goes, line_number}
-use Rattle.blk_deps.specs.Layout.{block_words, shown}
+use Rattle.blk_deps.specs.Layout.{block_words}
 use Rattle.blk_deps.specs.Rules.{breaks_at_line, breaks_at_end}
 use Rattle.blk_deps.specs.Blocks.{AreBlocks, first_of, count_of, facts_through}
 use Rattle.blk_deps.specs.Findings.{Setting, facts_after, OnPath, BreaksAt}
-use Rattle.blk_deps.specs.FlowFacts.{setting_of, HaveHands, ShowsPaths}
+use Rattle.blk_deps.specs.FlowFacts.{setting_of, HaveHands, ShowPaths}
 use Rattle.blk_deps.specs.Noting.{IsNoted}
 use Rattle.blk_deps.specs.Judged.{BreaksIn}
 use Rattle.blk_deps.specs.Walking.{BreaksByText, BreaksHere, BreaksAlong, BreaksEnd}
@@ -119,9 +117,10 @@ module _ (x : Setting) where
   down_all : (v : Violation) (line : ℕ) → BreaksIn x v line → BreaksBefore x (size_of x.graph) v line ⊎ EndsOnPath v line
   down_all v line is = down_at v line is.node is.breaks is.is_line
 
--- ---- the paths that are solved
+-- ---- the paths that are found
 
-module _ (x : Flow) (work : Work) (paths : ShowsPaths x work) (are : AreBlocks (size_of x.graph.now) (goes x.graph.now) x.blocks.now) where
+module _ (x : Flow) (found : ℕ → Facts) (paths : ShowPaths x found)
+    (are : AreBlocks (size_of x.graph.now) (goes x.graph.now) x.blocks.now) where
   abbrev s : Setting
   s = setting_of x
 
@@ -130,9 +129,6 @@ module _ (x : Flow) (work : Work) (paths : ShowsPaths x work) (are : AreBlocks (
 
   abbrev count : ℕ → ℕ
   count b = count_of (size_of x.graph.now) x.blocks.now b
-
-  abbrev found : ℕ → Facts
-  found b = shown x.layout.now (row_in work b)
 
   abbrev test_of : ℕ → Sym → Violation → Facts → Bool
   test_of n inst v = breaks_at_line s.interface s.live s.shape (slice_index s.depths n) inst v
@@ -161,12 +157,13 @@ module _ (x : Flow) (work : Work) (paths : ShowsPaths x work) (are : AreBlocks (
       by (inr path) = inr ((paths.each b passed _ (inl within) (line_single s.interface s.shape s.live (slice_index s.depths (first b + passed)) h.inst v)).1 path)
 
   -- one basic block more
-  pub one_more_block : (b : ℕ) (row : List ℕ) (vs : List Violation) (old mid new : List ℕ) → b < length x.blocks.now → row ≡ row_in work b
-      → IsNoted (BreaksBefore s (first b)) vs old mid → IsNoted (BreaksAlong s (first b) (count b) (shown x.layout.now row)) vs mid new
+  pub one_more_block : (b : ℕ) (facts : Facts) (vs : List Violation) (old mid new : List ℕ) → b < length x.blocks.now
+      → facts ≡ found b → IsNoted (BreaksBefore s (first b)) vs old mid
+      → IsNoted (BreaksAlong s (first b) (count b) facts) vs mid new
       → IsNoted (BreaksBefore s (first (b + 1))) vs old new
-  one_more_block b row vs old mid new inside is before along =
+  one_more_block b facts vs old mid new inside is before along =
       noted_as old new up down
-      (noted_then old mid new before (subst (λ r. IsNoted (BreaksAlong s (first b) (count b) (shown x.layout.now r)) vs mid new) is along))
+      (noted_then old mid new before (subst (λ f. IsNoted (BreaksAlong s (first b) (count b) f) vs mid new) is along))
     where
       next : first (b + 1) ≡ first b + count b
       next = are.follows b inside
@@ -196,13 +193,14 @@ module _ (x : Flow) (work : Work) (paths : ShowsPaths x work) (are : AreBlocks (
       (paths.each (length x.blocks.now) 0 (breaks_at_end s.interface s.shape v) (inr (refl, refl)) (end_single s.interface s.shape v))
 
   -- all basic blocks, and the end
-  pub all_noted : (b : ℕ) (row : List ℕ) (vs : List Violation) (old mid new : List ℕ) → length x.blocks.now ≤ b → row ≡ row_in work (length x.blocks.now)
-      → IsNoted (BreaksBefore s (first b)) vs old mid → IsNoted (BreaksEnd s (shown x.layout.now row)) vs mid new → IsNoted (BreaksIn s) vs old new
-  all_noted b row vs old mid new past is before end =
+  pub all_noted : (b : ℕ) (facts : Facts) (vs : List Violation) (old mid new : List ℕ) → length x.blocks.now ≤ b
+      → facts ≡ found (length x.blocks.now) → IsNoted (BreaksBefore s (first b)) vs old mid
+      → IsNoted (BreaksEnd s facts) vs mid new → IsNoted (BreaksIn s) vs old new
+  all_noted b facts vs old mid new past is before end =
       noted_as old new up down
       (noted_then old mid new
       (subst (λ n. IsNoted (BreaksBefore s n) vs old mid) (first_past b past) before)
-      (subst (λ r. IsNoted (BreaksEnd s (shown x.layout.now r)) vs mid new) is end))
+      (subst (λ f. IsNoted (BreaksEnd s f) vs mid new) is end))
     where
       up : (v : Violation) (line : ℕ) → BreaksBefore s (size_of x.graph.now) v line ⊎ BreaksEnd s (found (length x.blocks.now)) v line → BreaksIn s v line
       up v line (inl early) = up_all s v line (inl early)

@@ -8,7 +8,8 @@ use Rattle.std.proofs.lemmas.Option.{slice_get_within}
 use Rattle.asm_core.specs.Lists.{IsMember}
 use Rattle.asm_core.specs.Placement.{IsAllowed}
 use Rattle.asm_core.specs.Reg.{reg_number}
-use Rattle.asm_core.specs.Roomy.{ShareRegister, IsPlaceOf, place_registers}
+use Rattle.asm_core.specs.Roomy.{IsPlaceOf, place_registers}
+use Rattle.asm_places.specs.Sharing.{CanShare}
 use Rattle.asm_core.specs.Shape.{IsLive}
 use Rattle.asm_core.specs.declared.memory.Memory.{Memory}
 use Rattle.asm_core.specs.declared.reg.Reg.{Reg}
@@ -77,19 +78,16 @@ module _ (i : Interface) (s : Shape) where
           let other : may.shared.register ≡ reg_at q = of_place q lq may.at may.shared.register may.shared.in_second in
           eq-eqb p q (sym (numbered p lp) ∙ ap reg_number (sym one ∙ other) ∙ numbered q lq)
 
-  -- what `may_share` answers
-  pub places_share : (p q : ℕ) (r : Option Placement) → IsTrue (is_place i s p) → IsTrue (is_place i s q) → IfSome r (ShareRegister i s (place_at p) (place_at q))
-      → IfNone r ((at : Placement) → ShareRegister i s (place_at p) (place_at q) at → ⊥) → IsTrue (is_some r) ↔ MayShare i s p q
-  places_share p q (Some at) first second shared none = ((λ found. record { first = first; second = second; at = at; shared = shared }), (λ may. refl))
-  places_share p q None first second shared none = ((λ found. cc), (λ may. absurd (none may.at may.shared)))
-
-  pub answered : (p q : ℕ) (x y : Place) (r : Option Placement) (found : Bool) → x ≡ place_at p → y ≡ place_at q → found ≡ is_some r → IsTrue (is_place i s p) → IsTrue (is_place i s q)
-      → IfSome r (ShareRegister i s x y) → IfNone r ((at : Placement) → ShareRegister i s x y at → ⊥) → IsTrue found ↔ MayShare i s p q
-  answered p q x y r found is_x is_y is first second shared none =
-      subst (λ b. IsTrue b ↔ MayShare i s p q) (sym is)
-      (places_share p q r first second
-      (subst (λ z. IfSome r (ShareRegister i s (place_at p) z)) is_y (subst (λ z. IfSome r (ShareRegister i s z y)) is_x shared))
-      (subst (λ z. IfNone r ((at : Placement) → ShareRegister i s (place_at p) z at → ⊥)) is_y (subst (λ z. IfNone r ((at : Placement) → ShareRegister i s z y at → ⊥)) is_x none)))
+  -- what `can_share` answers
+  pub answered : (p q : ℕ) (x y : Place) (found : Bool) → x ≡ place_at p → y ≡ place_at q → IsTrue (is_place i s p)
+      → IsTrue (is_place i s q) → IsTrue found ↔ CanShare i s x y → IsTrue found ↔ MayShare i s p q
+  answered p q x y found is_x is_y first second told =
+      let here : IsTrue found ↔ CanShare i s (place_at p) (place_at q) =
+      subst (λ z. IsTrue found ↔ CanShare i s (place_at p) z) is_y
+      (subst (λ z. IsTrue found ↔ CanShare i s z y) is_x told) in (
+        (λ yes. let can = here.0 yes in record { first = first; second = second; at = can.at; shared = can.shared }),
+        (λ may. here.1 (record { at = may.at; shared = may.shared })),
+      )
 
   some_operand : (o : Option OperandIface) → IsTrue (is_some o) → (q : OperandIface) × (o ≡ Some q)
   some_operand (Some q) there = (q, refl)
@@ -163,6 +161,28 @@ module _ (i : Interface) (s : Shape) where
             let may : MayShare i s p q = subst (MayShare i s p) same below.shares in
             subst IsTrue (sym (bits r lr)) (or_right_true (has_bit word r) (r == q && shared) (all_true (r == q) shared (eq-eqb r q same) (answer.1 may)))
       ]
+
+  other_way : (p q : ℕ) → MayShare i s p q → MayShare i s q p
+  other_way p q may = record {
+    first = may.second;
+    second = may.first;
+    at = may.at;
+    shared = record {
+      allowed = may.shared.allowed;
+      register = may.shared.register;
+      in_first = may.shared.in_second;
+      in_second = may.shared.in_first;
+    };
+  }
+
+  -- the word of a place before tells it too
+  pub told_before : (count p q : ℕ) (words : List ℕ) → TellWords i s count words → q < length words → p < count
+      → count ≤ 37 → IsTrue (has_bit (slice_index words q) p) ↔ MayShare i s p q
+  told_before count p q words tell before inside few =
+      let told = tell q before p (omega (arith, inside, few)) in (
+        (λ set. other_way q p (told.0 set).shares),
+        (λ may. told.1 (record { below = inside; shares = other_way p q may })),
+      )
 
   -- what is no place shares nothing
   pub nowhere : (p q : ℕ) → is_place i s q ≡ false → IsTrue false ↔ MayShare i s p q

@@ -1,5 +1,5 @@
 -- The facts of a block under a shape, from basic block to basic block.
-use Rattle.std.specs.Prelude.{◌≡◌, ◌⊎◌, ◌↔◌, ℕ, ◌+◌, ◌*◌, ◌<◌, ◌≤◌, ◌&&◌, nat_lt, Bool, true, List, length, Some, slice_get, slice_index}
+use Rattle.std.specs.Prelude.{◌≡◌, ◌⊎◌, ◌↔◌, ℕ, ◌+◌, ◌*◌, ◌<◌, ◌≤◌, ◌==◌, ◌&&◌, nat_lt, Bool, true, false, List, [], ◌∷◌, length, Some, slice_get, slice_index}
 use Rattle.asm_core.specs.declared.sym.Sym.{Sym}
 use Rattle.dataflow.specs.Cause.{IsSingle}
 use Rattle.dataflow.specs.Working.{row_in}
@@ -65,11 +65,19 @@ pub record HaveHands (x : Flow) (hands : List ℕ) : Type 0 where
 abbrev pub IsInBlock : ℕ → List BasicBlock → ℕ → ℕ → Type 0
 IsInBlock size blocks b c = (c < count_of size blocks b) ⊎ ((b ≡ length blocks) × (c ≡ 0))
 
--- From each row the nodes of its block are reached: a test that one fact makes true is true of some path to a node
--- exactly where it is
--- true of what the row shows, moved by the instructions of the block before that node.
-pub record ShowsPaths (x : Flow) (work : Work) : Type 0 where
+-- one block alone, which goes on at the end
+abbrev pub is_straight : List BasicBlock → Bool
+is_straight (only ∷ []) = only.next == 1 && only.goal == 1
+is_straight blocks = false
+
+-- From what is found at its head the nodes of a block are reached: a test that one fact makes true is true of some path
+-- to a node exactly where it is true of that, moved by the instructions of the block before the node.
+pub record ShowPaths (x : Flow) (found : ℕ → Facts) : Type 0 where
   pub each : (b c : ℕ) (test : Facts → Bool) → IsInBlock (size_of x.graph.now) x.blocks.now b c → IsSingle test
       → (test (facts_through (facts_after (setting_of x)) (first_of (size_of x.graph.now) x.blocks.now b) c
-      (shown x.layout.now (row_in work b))) ≡ true)
+      (found b)) ≡ true)
       ↔ OnPath (setting_of x) (first_of (size_of x.graph.now) x.blocks.now b + c) test
+
+-- so do the rows
+abbrev pub ShowsPaths : Flow → Work → Type 0
+ShowsPaths x work = ShowPaths x (λ b. shown x.layout.now (row_in work b))

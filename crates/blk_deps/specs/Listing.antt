@@ -1,11 +1,12 @@
 -- The parts of the list of what may be broken, by the names of the operands and of the places.
-use Rattle.std.specs.Prelude.{List, [], ◌∷◌, ◌++◌, map}
+use Rattle.std.specs.Prelude.{◌≡◌, ℕ, ◌<◌, ◌≤◌, Bool, true, false, List, [], ◌∷◌, ◌++◌, map, Option, None, Some, slice_get}
 use Rattle.asm_core.specs.declared.flag.Flag.{Flag}
 use Rattle.asm_core.specs.declared.finding.Rule.{Rule}
 use Rattle.asm_core.specs.declared.finding.Cell.{Cell}
 use Rattle.blk_deps.specs.Rules.{registers, flags}
 use Rattle.blk_deps.specs.Findings.{alone, pairs_of}
 use Rattle.blk_deps.specs.declared.violation.Violation.{Violation}
+use Rattle.blk_deps.specs.declared.listing.PairNumbers.{PairNumbers}
 
 abbrev pub paired : Rule → Cell → Cell → Violation
 paired rule cell other = record { rule = rule; cell = cell; other = other }
@@ -31,3 +32,17 @@ reads_of operands =
 
 unfoldable pub uses_of : List Cell → List Cell → List Violation
 uses_of operands names = each_alone Rule.U2 operands ++ (pairs_of Rule.U3 names ++ each_alone Rule.U4 operands)
+
+-- ---- where those of pairs of places are
+
+abbrev pub is_u3 : Rule → Bool
+is_u3 Rule.U3 = true
+is_u3 rule = false
+
+abbrev pub is_of_pair : Option Violation → Bool
+is_of_pair None = false
+is_of_pair (Some v) = is_u3 v.rule
+
+-- those with these numbers are of pairs of places
+pub record AreOfPairs (violations : List Violation) (at : PairNumbers) : Type 0 where
+  pub each : (t : ℕ) → at.first ≤ t → t < at.end → is_of_pair (slice_get violations t) ≡ true

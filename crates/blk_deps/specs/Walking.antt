@@ -1,5 +1,5 @@
 -- What is broken along a basic block by the facts before it, and at the end.
-use Rattle.std.specs.Prelude.{◌≡◌, ◌⊎◌, ℕ, ◌+◌, ◌<◌, ◌&&◌, ◌||◌, Bool, true, false, IsTrue, List, length, Option, Some, slice_get, slice_index}
+use Rattle.std.specs.Prelude.{◌≡◌, ◌⊎◌, ℕ, ◌+◌, ◌<◌, ◌==◌, ◌&&◌, ◌||◌, nat_lt, not, Bool, true, false, IsTrue, List, length, Option, Some, slice_get, slice_index}
 use Rattle.asm_core.specs.WellFormed.{IsInterface}
 use Rattle.asm_core.specs.declared.sym.Sym.{Sym}
 use Rattle.asm_core.specs.declared.finding.Rule.{Rule}
@@ -7,8 +7,9 @@ use Rattle.asm_core.specs.declared.finding.Cell.{Cell}
 use Rattle.blk_deps.specs.Facts.{Facts}
 use Rattle.blk_deps.specs.Ways.{size_of}
 use Rattle.blk_deps.specs.Rules.{Used, breaks_at_line, breaks_at_end, breaks_u2, used_at_line}
-use Rattle.blk_deps.specs.Layout.{shown}
-use Rattle.blk_deps.specs.Fits.{HandsHold}
+use Rattle.blk_deps.specs.Layout.{shown, shown_value}
+use Rattle.blk_deps.specs.Fits.{HandsHold, some_pair}
+use Rattle.blk_deps.specs.Listing.{AreOfPairs}
 use Rattle.blk_deps.specs.Findings.{Setting, facts_after}
 use Rattle.blk_deps.specs.Blocks.{first_of, count_of, facts_through}
 use Rattle.blk_deps.specs.FlowFacts.{IsFlow, setting_of}
@@ -23,6 +24,9 @@ use Rattle.blk_deps.specs.declared.flow.Flow.{Flow}
 use Rattle.blk_deps.specs.declared.findings.Least.{Least}
 use Rattle.blk_deps.specs.declared.rules.scene.Scene.{Scene}
 use Rattle.blk_deps.specs.declared.rules.scene.AtLine.{AtLine}
+use Rattle.blk_deps.specs.declared.rules.uses.Uses.{Uses}
+use Rattle.blk_deps.specs.declared.listing.PairNumbers.{PairNumbers}
+use Rattle.blk_deps.specs.declared.fact.Property.TheVariants.{Pair}
 use Rattle.blk_deps.specs.declared.violation.Violation.{Violation}
 use Rattle.blk_deps.specs.declared.walk.Walk.{Walk}
 
@@ -72,6 +76,16 @@ unfoldable pub breaks_before : Setting → ℕ → Sym → Facts → Violation �
 breaks_before x depth inst facts v =
     breaks_by_text x inst v || breaks_at_line x.interface x.live x.shape depth inst v facts
 
+-- ---- violations of pairs
+
+-- some value that is used has a pair
+abbrev pub has_used_pair : Uses → Bool
+has_used_pair used = some_pair (λ d p. shown_value used.layout used.words.now (Pair d p))
+
+-- those of pairs begin at t, and no value that is used has one
+abbrev pub passes_pairs : PairNumbers → Bool → ℕ → Bool
+passes_pairs at paired t = t == at.first && (nat_lt t at.end && not paired)
+
 -- ---- walks
 
 -- the facts that a row shows
@@ -105,6 +119,7 @@ pub record IsWalk (w : Walk) : Type 0 where
   pub interface : IsInterface w.flow.context.now.interface.now
   pub depths : length w.flow.depths.now ≡ size_of w.flow.graph.now + 1
   pub names : AreMasks w.flow.context.now.ground.now.names w.names.now.masks
+  pub pairs : AreOfPairs w.violations.now w.pairs
   pub about : (t : ℕ) (v : Violation) → slice_get w.violations.now t ≡ Some v → IsAbout (length w.flow.context.now.interface.now.operands) v
   pub moves : (n : ℕ) (line : Sym) (moves : LineMoves) → slice_get w.flow.graph.now.insts n ≡ Some line → slice_get w.flow.moves.now n ≡ Some moves
       → IsLineMoves w.flow.context.now.interface.now w.flow.context.now.shape.now (slice_index w.flow.depths.now n) line moves

@@ -1,17 +1,17 @@
 //! What is found in the blocks of a statement under its live shapes.
 
-ghost use Rattle.std.specs.Prelude.{◌≡◌, ◌+◌, ◌<◌, ◌≤◌, [], length, replicate, slice_get, Some, All, IfOk, OnOk};
+ghost use Rattle.std.specs.Prelude.{◌≡◌, ◌+◌, ◌<◌, ◌≤◌, [], length, replicate, slice_get, Some, All, IsTrue, IfOk, OnOk};
 ghost use Rattle.asm_core.specs.Lists.{IsMember};
 ghost use Rattle.asm_core.specs.Shape.{IsLive, shapes_of};
 ghost use Rattle.asm_core.specs.WellFormed.{IsInterface};
 ghost use Rattle.dataflow.specs.Working.{IsWorkFor};
 ghost use Rattle.blk_deps.specs.Ground.{IsContext};
 ghost use Rattle.blk_deps.specs.Operands.{IsSmall};
-ghost use Rattle.blk_deps.specs.Layout.{row_words};
+ghost use Rattle.blk_deps.specs.Layout.{row_words, value_words};
 ghost use Rattle.blk_deps.specs.Ways.{IsGraph, size_of};
 ghost use Rattle.blk_deps.specs.Stack.{AreDepths};
 ghost use Rattle.blk_deps.specs.StackTable.{IsSound, FitDepths};
-ghost use Rattle.blk_deps.specs.FlowFacts.{HaveHands, ShowsPaths};
+ghost use Rattle.blk_deps.specs.FlowFacts.{HaveHands, ShowsPaths, is_straight};
 ghost use Rattle.blk_deps.specs.Noting.{IsNoted};
 ghost use Rattle.blk_deps.specs.Walking.{IsWalk, setting_in};
 ghost use Rattle.blk_deps.specs.Findings.{AreFindings, IsBroken, IsStackBroken, stack_violations, violations_of};
@@ -21,12 +21,13 @@ use crate::findings::{Least, listed};
 use crate::fitting::layout_of;
 use crate::flow::{Flow, prepare, solve};
 use crate::line::{LineMoves, line_moves};
-use crate::listing::violations;
+use crate::listing::{pair_numbers, violations};
+use crate::row::begin;
 use crate::rules::PlaceNames;
 use crate::sharing::sharers;
 use crate::stack::depths;
 use crate::walk::{Walk, note_block, note_end};
-use crate::{Context, Ground, Violation, basic_blocks};
+use crate::{BasicBlock, Context, Ground, Violation, basic_blocks};
 use asm_core::{Finding, Graph, Interface, Items, Memory, Shape};
 use dataflow::Work;
 use std::alloc::Global;
@@ -134,6 +135,7 @@ fn note_shape(
     let layout = layout_of(context.interface, moves.as_slice());
     let blocks = basic_blocks(alloc, graph)?;
     let names = PlaceNames::of(context.ground.names.as_slice());
+    let pairs = pair_numbers(violations);
     let walk = Walk {
         flow: Flow {
             context,
@@ -146,6 +148,7 @@ fn note_shape(
         },
         names: &names,
         violations,
+        pairs,
     };
     note_flow(alloc, &walk, least)
 }
@@ -161,6 +164,16 @@ fn most_hands(moves: &[LineMoves]) -> usize
     most
 }
 
+/// Whether there is one basic block alone, which goes on at the end.
+fn is_straight(blocks: &[BasicBlock]) -> bool
+    ensures { result ≡ is_straight blocks.now }
+{
+    match blocks {
+        [only] => only.next == 1 && only.goal == 1,
+        _ => false,
+    }
+}
+
 /// Notes what is broken on some path.
 fn note_flow(alloc: Global, walk: &Walk, least: &mut Least) -> Result<(), Memory>
     requires walk { IsWalk walk.now }
@@ -172,6 +185,9 @@ fn note_flow(alloc: Global, walk: &Walk, least: &mut Least) -> Result<(), Memory
         return Err(Memory);
     };
     let mut hands = vec![in alloc; 0; words]?;
+    if is_straight(flow.blocks) {
+        return note_straight(alloc, walk, &mut hands, least);
+    }
     let mut work = prepare(alloc, flow)?;
     solve(flow, &mut hands, &mut work);
     note_paths(alloc, walk, &work, &mut hands, least)
@@ -201,4 +217,47 @@ fn note_paths(
     }
     note_end(walk, work.row(walk.flow.blocks.len()), &mut used, least);
     Ok(())
+}
+
+/// Notes what is broken in one basic block that goes on at the end: there is one path.
+fn note_straight(
+    alloc: Global,
+    walk: &Walk,
+    hands: &mut [u64],
+    least: &mut Least,
+) -> Result<(), Memory>
+    requires walk { IsWalk walk.now }
+    requires straight { IsTrue (is_straight walk.now.flow.blocks.now) }
+    requires hands { HaveHands walk.now.flow hands.old }
+    requires count { length least.old.lines.items ≡ length walk.now.violations.now }
+    ensures { OnOk result (IsNoted (BreaksIn (setting_in walk.now)) walk.now.violations.now least.old.lines.items
+        least.new.lines.items) }
+{
+    let layout = walk.flow.layout;
+    let mut row = vec![in alloc; 0; layout.row_words()]?;
+    let mut used = vec![in alloc; 0; layout.value_words()]?;
+    note_only_path(walk, &mut row, hands, &mut used, least);
+    Ok(())
+}
+
+/// Notes what is broken on the one path, from a row that has no fact.
+fn note_only_path(
+    walk: &Walk,
+    row: &mut [u64],
+    hands: &mut [u64],
+    used: &mut [u64],
+    least: &mut Least,
+)
+    requires walk { IsWalk walk.now }
+    requires straight { IsTrue (is_straight walk.now.flow.blocks.now) }
+    requires blank { row.old ≡ replicate (row_words walk.now.flow.layout.now) 0 }
+    requires hands { HaveHands walk.now.flow hands.old }
+    requires used { length used.old ≡ value_words walk.now.flow.layout.now }
+    requires count { length least.old.lines.items ≡ length walk.now.violations.now }
+    ensures { IsNoted (BreaksIn (setting_in walk.now)) walk.now.violations.now least.old.lines.items
+        least.new.lines.items }
+{
+    begin(walk.flow.layout, walk.flow.context, row);
+    note_block(walk, 0, row, hands, used, least);
+    note_end(walk, row, used, least);
 }

@@ -1,9 +1,9 @@
 //! What may be broken in a block, in the order of reports.
 
-ghost use Rattle.std.specs.Prelude.{◌≡◌, ◌++◌, map, IfOk, OnOk};
+ghost use Rattle.std.specs.Prelude.{◌≡◌, ◌++◌, map, slice_get, IfOk, OnOk};
 ghost use Rattle.asm_core.specs.WellFormed.{IsInterface};
 ghost use Rattle.blk_deps.specs.Findings.{alone, place_names, pairs_of, violations_of, stack_violations};
-ghost use Rattle.blk_deps.specs.Listing.{paired, changes_of, reads_of, uses_of};
+ghost use Rattle.blk_deps.specs.Listing.{paired, changes_of, reads_of, uses_of, is_of_pair, AreOfPairs};
 ghost use Rattle.blk_deps.specs.Operands.{numbers_in};
 
 use crate::Violation;
@@ -150,6 +150,38 @@ pub fn violations(alloc: Global, interface: &Interface) -> Result<Items<Violatio
     push_reads(&mut list, operands.as_slice())?;
     push_uses(&mut list, operands.as_slice(), names.as_slice())?;
     Ok(list)
+}
+
+/// Where violations of pairs of places stand in a list: from the first number to before the end.
+#[derive(Clone, Copy, Debug, PartialEq, Eq)]
+pub struct PairNumbers {
+    pub first: usize,
+    pub end: usize,
+}
+
+/// Whether the violation of that number, if there is one, is of a pair of places.
+fn is_of_pair(violations: &[Violation], t: usize) -> bool
+    ensures { result ≡ is_of_pair (slice_get violations.now t) }
+{
+    if t < violations.len() {
+        return matches!(violations[t].rule, Rule::U3);
+    }
+    false
+}
+
+/// Where the first violations of pairs of places stand that follow one another.
+pub fn pair_numbers(violations: &[Violation]) -> PairNumbers
+    ensures { AreOfPairs violations.now result }
+{
+    let first = violations
+        .iter()
+        .position(|violation| matches!(violation.rule, Rule::U3))
+        .unwrap_or(0);
+    let mut end = first;
+    while is_of_pair(violations, end) {
+        end += 1;
+    }
+    PairNumbers { first, end }
 }
 
 /// The rules on the stack, in the order of reports.

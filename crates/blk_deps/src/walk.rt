@@ -7,11 +7,14 @@ ghost use Rattle.blk_deps.specs.Findings.{facts_after};
 ghost use Rattle.blk_deps.specs.FlowFacts.{HaveHands};
 ghost use Rattle.blk_deps.specs.Scenes.{IsAbout, ShowsUsed};
 ghost use Rattle.blk_deps.specs.Noting.{BreaksOn};
-ghost use Rattle.blk_deps.specs.Walking.{is_by_text, breaks_by_text, breaks_before, BreaksHere, BreaksAlong, BreaksEnd};
+ghost use Rattle.blk_deps.specs.Blocks.{facts_behind};
+ghost use Rattle.blk_deps.specs.Walking.{is_by_text, breaks_by_text, breaks_before, passes_pairs, has_used_pair};
+ghost use Rattle.blk_deps.specs.Walking.{BreaksHere, BreaksAlong, BreaksEnd};
 ghost use Rattle.blk_deps.specs.Walking.{setting_in, scene_of, shown_in, used_by, Notes, first_in, count_in, IsWalk, IsAt, ShowsUsedAt, HoldsReads};
 ghost use Rattle.blk_deps.specs.declared.fact.Fact.{Fact};
 
 use crate::findings::Least;
+use crate::listing::PairNumbers;
 use crate::row::{is_here, put_all, read_all};
 use crate::rules::{
     AtLine, PlaceNames, Scene, Uses, breaks_at_end, breaks_at_line, breaks_u2, collect_end_uses,
@@ -27,6 +30,8 @@ pub struct Walk<'a> {
     /// The places of each name.
     pub names: &'a PlaceNames,
     pub violations: &'a [Violation],
+    /// Violations of pairs of places.
+    pub pairs: PairNumbers,
 }
 
 /// What the tests of the rules are given.
@@ -69,6 +74,13 @@ fn breaks_before(walk: &Walk, at: &AtLine, row: &[u64], used: &Uses, violation: 
     breaks_by_text(walk, at, violation) || breaks_at_line(&scene, at, row, used, violation)
 }
 
+/// Whether the violations of pairs are next, and nothing that is used has a pair.
+fn passes_pairs(walk: &Walk, used: &Uses, t: usize) -> bool
+    ensures { result ≡ passes_pairs walk.now.pairs (has_used_pair used.now) t }
+{
+    t == walk.pairs.first && t < walk.pairs.end && !used.has_pair()
+}
+
 /// Notes what the instruction breaks that is on that line of a report.
 fn note_line(walk: &Walk, at: &AtLine, row: &[u64], used: &Uses, line: u32, least: &mut Least)
     requires walk { IsWalk walk.now }
@@ -79,10 +91,16 @@ fn note_line(walk: &Walk, at: &AtLine, row: &[u64], used: &Uses, line: u32, leas
     requires count { length least.old.lines.items ≡ length walk.now.violations.now }
     ensures { Notes walk.now (BreaksOn (breaks_before (setting_in walk.now) at.now.depth at.now.line.now (shown_in walk.now row.now)) line) least.old least.new }
 {
-    for t in 0..walk.violations.len() {
+    let mut t = 0;
+    while t < walk.violations.len() {
+        if passes_pairs(walk, used, t) {
+            t = walk.pairs.end;
+            continue;
+        }
         let broken = least.is_less(t, line)
             && breaks_before(walk, at, row, used, &walk.violations[t]);
         least.enter(t, line, broken);
+        t += 1;
     }
 }
 
@@ -166,7 +184,12 @@ pub fn note_block(
     ensures row { length row.new ≡ row_words walk.now.flow.layout.now }
     ensures hands { HaveHands walk.now.flow hands.new }
     ensures used { length used.new ≡ value_words walk.now.flow.layout.now }
-    ensures noted { Notes walk.now (BreaksAlong (setting_in walk.now) (first_in walk.now number) (count_in walk.now number) (shown_in walk.now row.old)) least.old least.new }
+    ensures facts { (fact : Fact) → shown_in walk.now row.new fact
+        ≡ facts_behind (size_of walk.now.flow.graph.now) walk.now.flow.blocks.now
+        (facts_after (setting_in walk.now)) number (shown_in walk.now row.old) fact }
+    ensures noted { Notes walk.now
+        (BreaksAlong (setting_in walk.now) (first_in walk.now number) (count_in walk.now number)
+        (shown_in walk.now row.old)) least.old least.new }
 {
     let block = walk.flow.blocks[number];
     for passed in 0..block.count {
@@ -189,9 +212,15 @@ pub fn note_end(walk: &Walk, row: &[u64], used: &mut [u64], least: &mut Least)
     let scene = scene_of(walk);
     collect_end_uses(scene.context, scene.layout, row, used);
     let uses = Uses::new(scene.layout, used);
-    for t in 0..walk.violations.len() {
+    let mut t = 0;
+    while t < walk.violations.len() {
+        if passes_pairs(walk, &uses, t) {
+            t = walk.pairs.end;
+            continue;
+        }
         let broken = least.is_less(t, END_LINE)
             && breaks_at_end(&scene, row, &uses, &walk.violations[t]);
         least.enter(t, END_LINE, broken);
+        t += 1;
     }
 }

@@ -50,6 +50,13 @@ impl<'a> Uses<'a> {
         }
     }
 
+    /// Whether some value has a pair.
+    pub(crate) fn has_pair(&self) -> bool
+        ensures { result ≡ some_pair (λ d p. shown_value self.now.layout self.now.words.now (Pair d p)) }
+    {
+        self.paired
+    }
+
     /// The cell's value of the entry.
     fn entry_of(&self, cell: u8) -> bool
         ensures { result ≡ shown_value self.now.layout self.now.words.now (ComesFrom (EntryOf cell)) }

@@ -33,7 +33,7 @@ note_flow-requires-clause-walk c =
     (subst (All (FitsMoves c.layout_of-layout.result)) (c.as_slice-2.ensures ∙ sym c.as_slice-6.ensures) c.layout_of-layout.ensures.fit)
     (subst (AreBlocks (size_of c.args.graph.now) (goes c.args.graph.now)) (sym c.as_slice-7.ensures) c.in_ok-blocks.ensures)
     (subst (λ (names : List Cell). AreMasks names c.of-names.result.masks) c.as_slice-3.ensures c.of-names.ensures)
-    c.requires.violations
+    c.requires.violations c.pair_numbers-pairs.ensures
 
 pub returns : goal.returns
 returns c =

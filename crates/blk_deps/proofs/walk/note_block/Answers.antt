@@ -5,7 +5,7 @@ use Rattle.blk_deps.specs.Findings.{facts_after}
 use Rattle.blk_deps.specs.FlowLaws.{after_law}
 use Rattle.blk_deps.specs.Walking.{BreaksAlong, setting_in}
 use Rattle.blk_deps.specs.declared.blocks.BasicBlock.{BasicBlock}
-use Rattle.blk_deps.proofs.FlowLemmas.{goes_through, node_within, is_block}
+use Rattle.blk_deps.proofs.FlowLemmas.{goes_through, node_within, is_block, whole_block}
 use Rattle.blk_deps.proofs.WalkLemmas.{none_along, one_more_along}
 use Rattle.blk_deps.proofs.walk.note_block.Goals as goal
 
@@ -38,6 +38,13 @@ loop-passed-preserved c =
       one_more_along x _ c.loop-passed.passed _ (shown c.args.walk.now.flow.layout.now c.loop-passed.row) c.args.walk.now.violations.now _ _ _ inv.4 inv.3 c.note_node.ensures,
       goes_through (facts_after x) (after_law x) _ c.loop-passed.passed _ _ _ inv.4 c.put_node.ensures.facts,
     )
+
+pub returns-clause-facts : goal.returns-clause-facts
+returns-clause-facts c =
+    let w = c.args.walk.now in
+    whole_block w.flow c.requires.walk.flow c.args.number c.requires.block
+    (record { first = 0; count = 0; next = 0; goal = 0 })
+    c.loop-passed.passed _ _ c.loop-passed.auto.passed-end c.loop-passed-test.false c.loop-passed.invariant.4
 
 pub returns-clause-noted : goal.returns-clause-noted
 returns-clause-noted c =
