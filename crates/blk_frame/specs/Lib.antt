@@ -1,0 +1,5 @@
+pub mod World
+pub mod Matches
+pub mod Shown
+pub mod Lines
+pub mod Laws
