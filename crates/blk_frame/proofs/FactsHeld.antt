@@ -19,6 +19,9 @@ use Rattle.blk_frame.proofs.Placings.{are_placed}
 use Rattle.blk_frame.proofs.Starts.{shadowed, entry_shows, entry_matches, entry_tops}
 use Rattle.blk_frame.proofs.LineSteps.{next, next_shows, next_matches, next_top}
 use Rattle.blk_frame.proofs.TableSteps.{table_step}
+use Rattle.blk_frame.proofs.EndRules.{place_kept}
+use Rattle.blk_frame.proofs.AccessRules.{not_overwritten}
+use Rattle.blk_frame.proofs.PathRules.{end_sound, pass_sound}
 use Rattle.blk_frame.proofs.HeldLaws.{same_flag, same_register, same_address}
 
 module _ (table : ObeysTable) (i : Interface) (s : Shape) (shares : ℕ → ℕ → Bool) (depth : ℕ) (line : Sym) (x : Stand)
@@ -57,6 +60,11 @@ facts_held table = record {
   flags = λ i s p entry m facts f low holds kept. same_flag i s p entry m facts holds f low kept;
   addresses = λ i s p entry m facts k form interface states holds is spot esp none. same_address i s p entry m facts
       holds interface states k form is spot none esp;
+  kept = λ i s p facts u b below lt sound is. place_kept i s u b below lt facts sound p is;
+  reached = λ i live s depth line facts a k interface sound accessed is there. not_overwritten i live s depth line
+      facts sound interface a k accessed is there;
+  passes = λ x graphs number is none. pass_sound x graphs number is none;
+  ends = λ x graphs number is none. end_sound x graphs number is none;
 }
 
 pub table_facts_held : FactsHold

@@ -31,6 +31,7 @@ use Rattle.blk_frame.specs.World.{Placed, World, is_address_byte, in_register_by
 use Rattle.blk_frame.specs.Matches.{IsKept, IsBeside}
 use Rattle.blk_frame.specs.Shown.{place_register, register_under, address_under, is_memory_place, is_numbered, placed_by, world_of}
 use Rattle.blk_frame.specs.Laws.{Holds, AreStates}
+use Rattle.blk_frame.proofs.Basics.{by_truth}
 use Rattle.blk_frame.proofs.ByteWrites.{LiesIn, cell_in_register, cell_place, cell_byte}
 use Rattle.blk_frame.proofs.Places.{place_back, place_small, lies_in}
 use Rattle.blk_frame.proofs.Starts.{shadowed, entry_shows}
@@ -99,48 +100,55 @@ module _ (i : Interface) (s : Shape) (p : Placement) (entry m : Machine) (facts 
             ∙ sym (at_byte (world_of x entry) b lt)
 
     module _ (k : ℕ) (form : Form) (is : is_place i s (7 + k) ≡ true) (spot : spot_of p k ≡ Spot.Memory form)
-        (none : (b d : ℕ) → b < 4 → d < 37 → facts (Overwrites d (byte_cell (7 + k) b)) ≡ false) where
-      in_memory : is_memory_place p (Place.Operand k) ≡ true
-      in_memory = rw spot refl
+        (none : (b d : ℕ) → b < 4 → d < 37 → is_place i s d ≡ true → facts (Overwrites d (byte_cell (7 + k) b)) ≡ false)
+      where
+        in_memory : is_memory_place p (Place.Operand k) ≡ true
+        in_memory = rw spot refl
 
-      no_register : register_under p (7 + k) ≡ None
-      no_register = ap (λ q. place_register (placed_place p q)) (place_back (Place.Operand k)) ∙ rw spot refl
+        no_register : register_under p (7 + k) ≡ None
+        no_register = ap (λ q. place_register (placed_place p q)) (place_back (Place.Operand k)) ∙ rw spot refl
 
-      address_cell : (b : ℕ) → b < 4 → is_address_byte x (byte_cell (7 + k) b) ≡ true
-      address_cell b lt =
-          let low = place_small i s (7 + k) interface is in
-          and_from _ _ (lt-ltb (byte_cell (7 + k) b) 148 (omega (arith, lt, low)))
-          (ap x.is_address (cell_place (7 + k) b lt)
-          ∙ and_from _ _ is (ap (is_memory_place p) (place_back (Place.Operand k)) ∙ in_memory))
+        address_cell : (b : ℕ) → b < 4 → is_address_byte x (byte_cell (7 + k) b) ≡ true
+        address_cell b lt =
+            let low = place_small i s (7 + k) interface is in
+            and_from _ _ (lt-ltb (byte_cell (7 + k) b) 148 (omega (arith, lt, low)))
+            (ap x.is_address (cell_place (7 + k) b lt)
+            ∙ and_from _ _ is (ap (is_memory_place p) (place_back (Place.Operand k)) ∙ in_memory))
 
-      has_register : (r : Reg) → IsMember r (form_registers form) → x.has (7 + k) (reg_number r) ≡ true
-      has_register r member =
-          let at : address_under p (place_at (7 + k)) ≡ form_registers form = ap (address_under p)
-          (place_back (Place.Operand k)) ∙ rw spot refl in
-          and_from _ _ is (rw no_register (rw at (in_numbered r (form_registers form) member)))
+        has_register : (r : Reg) → IsMember r (form_registers form) → x.has (7 + k) (reg_number r) ≡ true
+        has_register r member =
+            let at : address_under p (place_at (7 + k)) ≡ form_registers form = ap (address_under p)
+            (place_back (Place.Operand k)) ∙ rw spot refl in
+            and_from _ _ is (rw no_register (rw at (in_numbered r (form_registers form) member)))
 
-      form_register : (r : Reg) → IsMember r (form_registers form) → reg_in r m ≡ reg_in r entry
-      form_register r member = same_word r (λ b lt.
-          ap (holds.world.registers (reg_number r)) (sym (cell_byte (7 + k) b lt))
-          ∙ holds.matches.addresses (byte_cell (7 + k) b) (reg_number r) (address_cell b lt)
-          (ap (λ q. x.has q (reg_number r)) (cell_place (7 + k) b lt) ∙ has_register r member)
-          (λ d dlt over same. both_ways (facts (Overwrites d (byte_cell (7 + k) b))) (none b d lt dlt) over)
-          ∙ ap ((world_of x entry).registers (reg_number r)) (cell_byte (7 + k) b lt))
+        overwritten : (r : Reg) (b : ℕ) → b < 4 → (d : ℕ) → d < 37 → facts (Overwrites d (byte_cell (7 + k) b)) ≡ true
+            → x.register_of d ≡ reg_number r → ⊥
+        overwritten r b lt d dlt over same = by_truth (is_place i s d) (λ there. both_ways _ (none b d lt dlt there) over)
+            (λ gone. let seven : 7 ≡ reg_number r = rw gone at same in let small = reg_number_small r in omega
+            (arith, seven, small))
 
-      pub same_address : m.esp ≡ entry.esp → address_of form m ≡ address_of form entry
-      same_address esp = ap (λ n. (modulo form.disp 32 + n + index_in form.index m) % 2 ^ 32)
-          (same_base form.base refl) ∙ ap (λ n. (modulo form.disp 32 + base_in form.base entry + n) % 2 ^ 32)
-          (same_index form.index refl)
-        where
-          same_base : (base : Option Base) → form.base ≡ base → base_in form.base m ≡ base_in form.base entry
-          same_base None e = rw e refl
-          same_base (Some Base.Esp) e = rw e esp
-          same_base (Some (Base.Reg r)) e = rw e
-              (form_register r (subst (λ b. IsMember r (form_registers (record form { base = b }))) (sym e) (inl refl)))
+        form_register : (r : Reg) → IsMember r (form_registers form) → reg_in r m ≡ reg_in r entry
+        form_register r member = same_word r (λ b lt.
+            ap (holds.world.registers (reg_number r)) (sym (cell_byte (7 + k) b lt))
+            ∙ holds.matches.addresses (byte_cell (7 + k) b) (reg_number r) (address_cell b lt)
+            (ap (λ q. x.has q (reg_number r)) (cell_place (7 + k) b lt) ∙ has_register r member)
+            (λ d dlt over same. overwritten r b lt d dlt over same)
+            ∙ ap ((world_of x entry).registers (reg_number r)) (cell_byte (7 + k) b lt))
 
-          same_index : (index : Option (Reg × ℕ)) → form.index ≡ index
-              → index_in form.index m ≡ index_in form.index entry
-          same_index None e = rw e refl
-          same_index (Some y) e = rw e (ap (λ v. v * y.1)
-              (form_register y.0 (subst (λ n. IsMember y.0 (form_registers (record form { index = n }))) (sym e)
-              (member_back y.0 _ (y.0 ∷ []) (inl refl)))))
+        pub same_address : m.esp ≡ entry.esp → address_of form m ≡ address_of form entry
+        same_address esp = ap (λ n. (modulo form.disp 32 + n + index_in form.index m) % 2 ^ 32)
+            (same_base form.base refl) ∙ ap (λ n. (modulo form.disp 32 + base_in form.base entry + n) % 2 ^ 32)
+            (same_index form.index refl)
+          where
+            same_base : (base : Option Base) → form.base ≡ base → base_in form.base m ≡ base_in form.base entry
+            same_base None e = rw e refl
+            same_base (Some Base.Esp) e = rw e esp
+            same_base (Some (Base.Reg r)) e = rw e
+                (form_register r (subst (λ b. IsMember r (form_registers (record form { base = b }))) (sym e) (inl refl)))
+
+            same_index : (index : Option (Reg × ℕ)) → form.index ≡ index
+                → index_in form.index m ≡ index_in form.index entry
+            same_index None e = rw e refl
+            same_index (Some y) e = rw e (ap (λ v. v * y.1)
+                (form_register y.0 (subst (λ n. IsMember y.0 (form_registers (record form { index = n }))) (sym e)
+                (member_back y.0 _ (y.0 ∷ []) (inl refl)))))

@@ -20,3 +20,8 @@ pub mod TableRows
 pub mod TableSteps
 pub mod HeldLaws
 pub mod FactsHeld
+pub mod Members
+pub mod Names
+pub mod EndRules
+pub mod AccessRules
+pub mod PathRules

@@ -30,7 +30,7 @@ place_back (Place.Reg Reg.Ebp) = refl
 place_back (Place.Operand k) = let gone : nat_lt (7 + k) 7 ≡ false = le-ltb (7 + k) 7 (omega arith) in rw gone
     (ap Place.Operand (omega arith))
 
-there_below : {A : Type 0} (xs : List A) (n : ℕ) → is_some (slice_get xs n) ≡ true → n < length xs
+pub there_below : {A : Type 0} (xs : List A) (n : ℕ) → is_some (slice_get xs n) ≡ true → n < length xs
 there_below xs n is = elim (cases_lt n (length xs)) [
   | inl lt ↦ lt
   | inr le ↦ absurd (both_ways _ (ap is_some (slice_get_past xs n le)) is)

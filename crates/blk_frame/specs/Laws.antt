@@ -1,6 +1,6 @@
 -- What the facts of a path say of a run along it: at the entry, behind each step, and of registers, flags and
 -- addresses wherever it stands.
-use Rattle.std.specs.Prelude.{◌≡◌, ℕ, ◌+◌, ◌<◌, ◌≤◌, ◌^◌, Bool, true, false, All, List}
+use Rattle.std.specs.Prelude.{◌≡◌, ℕ, ◌+◌, ◌<◌, ◌≤◌, ◌^◌, Bool, true, false, All, List, Some, slice_get, slice_index}
 use Rattle.asm_core.specs.Reg.{reg_number}
 use Rattle.asm_core.specs.Flag.{flag_number, flag_in}
 use Rattle.asm_core.specs.Machine.{reg_in}
@@ -22,7 +22,16 @@ use Rattle.asm_core.specs.declared.machine.Machine.{Machine}
 use Rattle.x86_table.specs.TableLaws.{IsStepped, IsPlain}
 use Rattle.blk_deps.specs.Cells.{byte_cell, flag_cell}
 use Rattle.blk_deps.specs.Facts.{Facts, after_moves}
-use Rattle.blk_deps.specs.Line.{line_reads, line_puts}
+use Rattle.asm_core.specs.Lists.{IsMember}
+use Rattle.asm_core.specs.declared.sym.Arg.{Arg}
+use Rattle.asm_core.specs.declared.row.Access.{Access}
+use Rattle.asm_core.specs.declared.lines.Graph.{Graph}
+use Rattle.dataflow.specs.Paths.{IsPathTo}
+use Rattle.blk_deps.specs.Line.{line_reads, line_puts, accesses_in}
+use Rattle.blk_deps.specs.Rules.{is_kept}
+use Rattle.blk_deps.specs.Ways.{size_of, goes}
+use Rattle.blk_deps.specs.Findings.{Setting}
+use Rattle.blk_frame.specs.Accepted.{NoneBroken, EndsSound, PassesSound, IsShapeOf, facts_on}
 use Rattle.blk_deps.specs.Operands.{is_place}
 use Rattle.blk_deps.specs.Stack.{pushes}
 use Rattle.blk_deps.specs.Start.{at_entry, TellsSharing}
@@ -79,5 +88,25 @@ pub record FactsHold : Type 0 where
       (form : Form) → IsInterface i → AreStates entry m
       → Holds (placed_by i s p) entry facts m → is_place i s (7 + k) ≡ true → spot_of p k ≡ Spot.Memory form
       → m.esp ≡ entry.esp
-      → ((b d : ℕ) → b < 4 → d < 37 → facts (Overwrites d (byte_cell (7 + k) b)) ≡ false)
+      → ((b d : ℕ) → b < 4 → d < 37 → is_place i s d ≡ true → facts (Overwrites d (byte_cell (7 + k) b)) ≡ false)
       → address_of form m ≡ address_of form entry
+  -- where the end breaks no rule, each place that has to be as at the entry has its values
+  pub kept : (i : Interface) (s : Shape) (p : Placement) (facts : Facts) (u b : ℕ) → u < 37 → b < 4
+      → EndsSound i s facts
+      → is_kept i s u ≡ true → IsKept (placed_by i s p) facts (byte_cell u b)
+  -- where an instruction breaks no rule, nothing overwrites the address of a memory operand that it accesses
+  pub reached : (i : Interface) (live : List Shape) (s : Shape) (depth : ℕ) (line : Sym) (facts : Facts) (a : Access)
+      (k : ℕ)
+      → IsInterface i → PassesSound i live s depth line facts → IsMember a (accesses_in line) → a.to ≡ Arg.Memory k
+      → is_place i s (7 + k) ≡ true → (b d : ℕ) → b < 4 → d < 37 → is_place i s d ≡ true
+      → facts (Overwrites d (byte_cell (7 + k) b)) ≡ false
+  -- where no rule of paths is broken, the facts of each path break none
+  pub passes : (x : Setting) (graphs : List Graph) (number : ℕ) → IsShapeOf x graphs number
+      → NoneBroken x.interface x.live graphs
+      → (path : List ℕ) (n : ℕ) (line : Sym) → slice_get x.graph.insts n ≡ Some line
+      → IsPathTo (size_of x.graph) (goes x.graph) path n
+      → PassesSound x.interface x.live x.shape (slice_index x.depths n) line (facts_on x path)
+  pub ends : (x : Setting) (graphs : List Graph) (number : ℕ) → IsShapeOf x graphs number
+      → NoneBroken x.interface x.live graphs
+      → (path : List ℕ) → IsPathTo (size_of x.graph) (goes x.graph) path (size_of x.graph)
+      → EndsSound x.interface x.shape (facts_on x path)

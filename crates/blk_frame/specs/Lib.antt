@@ -3,3 +3,4 @@ pub mod Matches
 pub mod Shown
 pub mod Lines
 pub mod Laws
+pub mod Accepted
