@@ -9,10 +9,10 @@ use Rattle.blk_frame.proofs.Basics.{byte_no_hand}
 pub record HoldsHands (given : ℕ → ℕ) (w : World) : Type 0 where
   pub each : (hand : ℕ) → w.cells (hand_cell hand) ≡ given hand
 
-hand_is : (hand : ℕ) → is_hand (hand_cell hand) ≡ true
+pub hand_is : (hand : ℕ) → is_hand (hand_cell hand) ≡ true
 hand_is hand = le-leb 218 (hand_cell hand) (omega arith)
 
-hand_other : (u hand : ℕ) → is_hand u ≡ false → hand_cell hand ≡ u → ⊥
+pub hand_other : (u hand : ℕ) → is_hand u ≡ false → hand_cell hand ≡ u → ⊥
 hand_other u hand none same = both_ways (is_hand u) none (ap is_hand (sym same) ∙ hand_is hand)
 
 pub put_holds : (x : Placed) (given : ℕ → ℕ) (put : Put) (w : World) → IsWritable x put → HoldsHands given w

@@ -123,7 +123,8 @@ module _ (i : Interface) (s : Shape) (p : Placement) (entry m : Machine) (facts 
 
         overwritten : (r : Reg) (b : ℕ) → b < 4 → (d : ℕ) → d < 37 → facts (Overwrites d (byte_cell (7 + k) b)) ≡ true
             → x.register_of d ≡ reg_number r → ⊥
-        overwritten r b lt d dlt over same = by_truth (is_place i s d) (λ there. both_ways _ (none b d lt dlt there) over)
+        overwritten r b lt d dlt over same = by_truth (is_place i s d)
+            (λ there. both_ways _ (none b d lt dlt there) over)
             (λ gone. let seven : 7 ≡ reg_number r = rw gone at same in let small = reg_number_small r in omega
             (arith, seven, small))
 
@@ -144,7 +145,8 @@ module _ (i : Interface) (s : Shape) (p : Placement) (entry m : Machine) (facts 
             same_base None e = rw e refl
             same_base (Some Base.Esp) e = rw e esp
             same_base (Some (Base.Reg r)) e = rw e
-                (form_register r (subst (λ b. IsMember r (form_registers (record form { base = b }))) (sym e) (inl refl)))
+                (form_register r (subst (λ b. IsMember r (form_registers (record form { base = b }))) (sym e)
+                (inl refl)))
 
             same_index : (index : Option (Reg × ℕ)) → form.index ≡ index
                 → index_in form.index m ≡ index_in form.index entry

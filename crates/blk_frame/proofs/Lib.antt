@@ -25,3 +25,5 @@ pub mod Names
 pub mod EndRules
 pub mod AccessRules
 pub mod PathRules
+pub mod Turns
+pub mod Repeats

@@ -218,7 +218,7 @@ module _ (x : Placed) (shares : ℕ → ℕ → Bool) (entry : World) (s : Facts
 
 module _ (x : Placed) (shares : ℕ → ℕ → Bool) (placed : ArePlaced x shares) (entry : World)
     (shadowed : IsShadowed x entry) where
-  put_matches : (put : Put) (s : Facts) (w : World) → IsWritable x put → Matches x entry s w
+  pub put_matches : (put : Put) (s : Facts) (w : World) → IsWritable x put → Matches x entry s w
       → Matches x entry (facts.after_put shares put s) (after_put x put w)
   put_matches (Put.Place u hand) s w is matches = byte_matches x shares placed entry shadowed s w matches u hand is
   put_matches (Put.Plain u hand) s w is matches = plain_matches x shares entry s w matches u hand is.0

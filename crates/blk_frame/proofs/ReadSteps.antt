@@ -12,21 +12,23 @@ use Rattle.blk_frame.specs.World.{Placed, World, is_register_byte, in_register_b
 use Rattle.blk_frame.specs.Matches.{IsGood, IsIntact, Matches, HasTop}
 use Rattle.blk_frame.proofs.Basics.{by_truth, place_below, byte_no_hand}
 
--- What holds of facts holds of fewer.
-pub fewer_good : (x : Placed) (s t : Facts) (c : ℕ) → ((f : Fact) → s f ≡ true → t f ≡ true) → IsGood x t c
-    → IsGood x s c
-fewer_good x s t c more good d u dlt ult has = good d u dlt ult (more (Has c (Pair d u)) has)
+-- What holds of facts holds of more.
+module _ (x : Placed) (entry : World) (s t : Facts) (w : World) where
+  pub fewer_cells : ((c : ℕ) (property : Property) → s (Has c property) ≡ true → t (Has c property) ≡ true)
+      → ((d c : ℕ) → s (Overwrites d c) ≡ true → t (Overwrites d c) ≡ true) → t Here ≡ true → Matches x entry s w
+      → Matches x entry t w
+  fewer_cells more_has more_over here m = record {
+    here = here;
+    intact = λ c is intact. m.intact c is (λ d lt over. intact d lt (more_over d c over));
+    copies = λ c e good none. m.copies c e (λ d u dlt ult has. good d u dlt ult (more_has c (Pair d u) has))
+        (by_truth (s (Has c (NotEntryOf e))) (λ has. absurd (both_ways _ none (more_has c (NotEntryOf e) has)))
+        (λ is. is));
+    addresses = λ c q is has intact. m.addresses c q is has (λ d lt over. intact d lt (more_over d c over));
+  }
 
-pub fewer_matches : (x : Placed) (entry : World) (s t : Facts) (w : World) → ((f : Fact) → s f ≡ true → t f ≡ true)
-    → s Here ≡ true
-    → Matches x entry s w → Matches x entry t w
-fewer_matches x entry s t w more here m = record {
-  here = more Here here;
-  intact = λ c is intact. m.intact c is (λ d lt over. intact d lt (more (Overwrites d c) over));
-  copies = λ c e good none. m.copies c e (fewer_good x s t c more good)
-      (by_truth (s (Has c (NotEntryOf e))) (λ has. absurd (both_ways _ none (more _ has))) (λ is. is));
-  addresses = λ c q is has intact. m.addresses c q is has (λ d lt over. intact d lt (more (Overwrites d c) over));
-}
+  pub fewer_matches : ((f : Fact) → s f ≡ true → t f ≡ true) → s Here ≡ true → Matches x entry s w → Matches x entry t w
+  fewer_matches more here = fewer_cells (λ c property. more (Has c property)) (λ d c. more (Overwrites d c))
+      (more Here here)
 
 module _ (x : Placed) (entry : World) (s : Facts) (w : World) (matches : Matches x entry s w) where
   -- a cell as it is read: its pairs with what overwrites it are good where it is intact

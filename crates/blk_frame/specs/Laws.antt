@@ -12,6 +12,7 @@ use Rattle.asm_core.specs.Steps.{Stand}
 use Rattle.asm_core.specs.WellFormed.{IsInterface}
 use Rattle.asm_core.specs.declared.reg.Reg.{Reg}
 use Rattle.asm_core.specs.declared.flag.Flag.{Flag}
+use Rattle.asm_core.specs.declared.inst.Repeat.{Repeat}
 use Rattle.asm_core.specs.declared.sym.Sym.{Sym}
 use Rattle.asm_core.specs.declared.shape.Shape.{Shape}
 use Rattle.asm_core.specs.declared.interface.Interface.{Interface}
@@ -72,6 +73,14 @@ pub record FactsHold : Type 0 where
   pub step : (i : Interface) (s : Shape) (shares : ℕ → ℕ → Bool) (depth : ℕ) (line : Sym) (x : Stand)
       (entry : Machine) (facts : Facts)
       → TellsSharing i s shares → IsTableStep i s depth line x → Holds (placed_by i s x.at) entry facts x.before
+      → Holds (placed_by i s x.at) entry (after_moves shares (line_reads i s depth line)
+      (line_puts i s depth line) facts) x.after
+  -- what holds behind a repeated instruction holds behind each further turn of it
+  pub turn : (i : Interface) (s : Shape) (shares : ℕ → ℕ → Bool) (depth : ℕ) (line : Sym) (x : Stand)
+      (entry : Machine) (facts : Facts)
+      → TellsSharing i s shares → IsTableStep i s depth line x → (line.repeat ≡ Repeat.No → ⊥)
+      → Holds (placed_by i s x.at) entry (after_moves shares (line_reads i s depth line)
+      (line_puts i s depth line) facts) x.before
       → Holds (placed_by i s x.at) entry (after_moves shares (line_reads i s depth line)
       (line_puts i s depth line) facts) x.after
   -- a register in which no place has lost its value is as at the entry
