@@ -1,6 +1,6 @@
 -- Where an instruction breaks no rule, no place overwrites the address of a memory operand that it accesses.
-use Rattle.std.proofs.Common.{◌≡◌, inl, inr, ℕ, zero, suc, ◌+◌, ◌-◌, ◌*◌, ◌<◌, ◌==◌, ◌&&◌, ◌||◌, Bool, true, false, List, [], ◌∷◌, ◌++◌, map, filter, length, Some, slice_get, if◌then◌else◌, refl, sym, ap, subst, ◌∙◌, arith, length-append}
-use Rattle.std.specs.List.{list_any, range_with_len, flat_map}
+use Rattle.std.proofs.Common.{◌≡◌, inl, inr, ℕ, suc, ◌+◌, ◌-◌, ◌<◌, ◌==◌, ◌&&◌, true, false, List, [], ◌∷◌, ◌++◌, map, length, Some, slice_get, refl, sym, ap, subst, ◌∙◌, arith, length-append}
+use Rattle.std.specs.List.{list_any, range_with_len}
 use Rattle.std.proofs.lemmas.Bool.{both_ways, and_from, or_right, false_from_ne_true, lt-ltb, le-leb, eq-eqb}
 use Rattle.std.proofs.lemmas.List.FromFn.{length-map-range_with_len}
 use Rattle.asm_core.specs.Lists.{IsMember}
@@ -15,7 +15,7 @@ use Rattle.asm_core.specs.declared.finding.Rule.{Rule}
 use Rattle.blk_deps.specs.Cells.{is_hand, hand_cell, place_cells, byte_cell, place_of, is_byte}
 use Rattle.blk_deps.specs.Facts.{Facts, has_as_read, has_from, has_read, in_hand, after_reads}
 use Rattle.blk_deps.specs.Operands.{is_place, name_of}
-use Rattle.blk_deps.specs.Line.{writes_in, accesses_in, all_names, uses_in, cells_there, address_cells, access_cells, reads_from, read_for, line_reads, stored_from, hand_count, used_hands}
+use Rattle.blk_deps.specs.Line.{writes_in, accesses_in, all_names, uses_in, address_cells, access_cells, reads_from, read_for, line_reads, stored_from, hand_count, used_hands}
 use Rattle.blk_deps.specs.Rules.{all_places, same_cell, places_named, used_at_line, breaks_u3, breaks_by_access, breaks_at_line}
 use Rattle.blk_deps.specs.declared.fact.Property.TheVariants.{Pair}
 use Rattle.blk_deps.specs.declared.fact.Fact.TheVariants.{Here, Has, Overwrites}

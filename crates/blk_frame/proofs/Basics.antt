@@ -1,7 +1,7 @@
 -- Truth values, and pairs of places.
-use Rattle.std.proofs.Common.{◌≡◌, inl, inr, ℕ, ◌+◌, ◌*◌, ◌/◌, ◌<◌, ◌==◌, ◌||◌, ◌&&◌, nat_lt, nat_le, Bool, true, false, refl, sym, ap, subst, ◌∙◌, arith}
+use Rattle.std.proofs.Common.{◌≡◌, None, Some, inl, inr, ℕ, ◌+◌, ◌<◌, ◌||◌, Bool, true, false, refl, sym, ap, subst, ◌∙◌, arith}
 use Rattle.std.specs.List.{list_any, range_with_len}
-use Rattle.std.proofs.lemmas.Bool.{cases_Bool, both_ways, and_parts, ltb-true, lt-leb}
+use Rattle.std.proofs.lemmas.Bool.{cases_Bool, cases_eq, both_ways, and_parts, ltb-true, lt-leb}
 use Rattle.std.proofs.lemmas.List.Folds.{list_any_at}
 use Rattle.std.proofs.lemmas.List.FromFn.{length-range_with_len, get_or-range_with_len}
 use Rattle.blk_deps.specs.Cells.{is_byte, is_hand, place_of}
@@ -42,3 +42,10 @@ none_paired s c d p dlt plt none has =
 
 pub byte_placed : (x : Placed) (c : ℕ) → is_register_byte x c ≡ true → x.in_register (place_of c) ≡ true
 byte_placed x c is = (and_parts _ _ is).1
+
+-- where an answer in numbers follows from something and from its contrary, it holds
+pub either_way : {P : Type 0} (a b : ℕ) → (P → a ≡ b) → ((P → ⊥) → a ≡ b) → a ≡ b
+either_way a b if_so if_not = elim (cases_eq a b) [ inl same ↦ same | inr other ↦ if_not (λ is. other (if_so is)) ]
+
+pub same_some : {A : Type 0} (a b : A) → Some a ≡ Some b → a ≡ b
+same_some a b e = ap (λ o. elim o [ None ↦ a | Some h ↦ h ]) e

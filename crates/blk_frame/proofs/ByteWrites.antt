@@ -1,22 +1,20 @@
 -- A write of several bytes of a register: each byte has the value of its hand, and all else is as before.
-use Rattle.std.proofs.Common.{◌≡◌, inl, inr, ℕ, zero, suc, ◌+◌, ◌*◌, ◌/◌, ◌%◌, ◌<◌, ◌≤◌, ◌==◌, ◌&&◌, nat_lt, ◌++◌, Bool, true, false, List, [], ◌∷◌, if◌then◌else◌, refl, sym, ap, subst, ◌∙◌, arith}
+use Rattle.std.proofs.Common.{◌≡◌, inl, inr, ℕ, zero, suc, ◌+◌, ◌<◌, ◌≤◌, ◌==◌, ◌&&◌, true, false, List, [], ◌∷◌, refl, sym, ap, subst, ◌∙◌, arith}
 use Rattle.std.specs.List.{range_with_len, flat_map}
-use Rattle.std.proofs.lemmas.Bool.{both_ways, eq-eqb, ne_eqb, eqb-true, lt-ltb, le-ltb, ltb-true, and_parts, and_from, cases_lt, cases_eq, false_from_ne_true}
+use Rattle.std.proofs.lemmas.Bool.{eq-eqb, ne_eqb, eqb-true, lt-ltb, le-ltb, and_parts, and_from, cases_lt, cases_eq, false_from_ne_true}
 use Rattle.asm_core.specs.Reg.{reg_number}
-use Rattle.asm_core.specs.Flag.{flag_number}
 use Rattle.asm_core.specs.RowLaws.{Component}
 use Rattle.asm_core.specs.declared.reg.Reg.{Reg}
 use Rattle.asm_core.specs.declared.sym.Place.{Place}
 use Rattle.asm_core.specs.declared.shape.Shape.{Shape}
 use Rattle.asm_core.specs.declared.interface.Interface.{Interface}
 use Rattle.asm_core.proofs.RegisterLaws.{same_reg}
-use Rattle.blk_deps.specs.Cells.{place_number, byte_cell, hand_cell, flag_cell, place_of, byte_of, is_byte}
+use Rattle.blk_deps.specs.Cells.{place_number, byte_cell, hand_cell, flag_cell, place_of, byte_of}
 use Rattle.blk_deps.specs.Operands.{is_place}
 use Rattle.blk_deps.specs.Line.{put_byte}
 use Rattle.blk_deps.specs.declared.step.Put.{Put}
 use Rattle.blk_frame.specs.World.{Placed, World, is_register_byte, after_put, after_puts, AreWritable}
 use Rattle.blk_frame.specs.Shown.{shown, IsSeen}
-use Rattle.blk_frame.proofs.Basics.{by_truth}
 use Rattle.blk_frame.proofs.Hands.{HoldsHands, puts_hold, puts_append, writable_append}
 
 abbrev register_byte_in : Component → ℕ

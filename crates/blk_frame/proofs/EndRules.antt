@@ -1,11 +1,10 @@
 -- Where the end breaks no rule, the cells of each place that has to be kept have their own values of the entry.
-use Rattle.std.proofs.Common.{◌≡◌, inl, inr, ℕ, zero, suc, ◌+◌, ◌-◌, ◌*◌, ◌<◌, ◌≤◌, ◌==◌, ◌&&◌, ◌||◌, nat_lt, not, Bool, true, false, List, [], ◌∷◌, ◌++◌, map, filter, Option, None, Some, is_some, if◌then◌else◌, refl, sym, ap, subst, ◌∙◌, arith}
-use Rattle.std.specs.List.{list_any, range_with_len, flat_map}
-use Rattle.std.proofs.lemmas.Bool.{cases_Bool, both_ways, and_parts, and_from, and_left, and_right, or_left, or_right, or_cases, false_from_ne_true, ltb-true, lt-ltb, le-ltb, cases_lt, eqb-true, not-true}
+use Rattle.std.proofs.Common.{◌≡◌, inl, inr, ℕ, zero, suc, ◌<◌, ◌==◌, ◌&&◌, nat_lt, not, Bool, true, false, List, [], ◌∷◌, ◌++◌, map, filter, Option, None, Some, is_some, if◌then◌else◌, refl, ap, ◌∙◌, arith}
+use Rattle.std.specs.List.{list_any, flat_map}
+use Rattle.std.proofs.lemmas.Bool.{both_ways, and_parts, and_from, or_left, or_right, or_cases, false_from_ne_true, ltb-true, eqb-true, not-true}
 use Rattle.asm_core.proofs.MachineLaws.{reg_number_small}
 use Rattle.asm_core.specs.Lists.{IsMember}
 use Rattle.asm_core.specs.Reg.{reg_number}
-use Rattle.asm_core.specs.Flag.{flag_number}
 use Rattle.asm_core.specs.declared.reg.Reg.{Reg}
 use Rattle.asm_core.specs.declared.flag.Flag.{Flag}
 use Rattle.asm_core.specs.declared.shape.Shape.{Shape}
@@ -13,10 +12,10 @@ use Rattle.asm_core.specs.declared.interface.Interface.{Interface}
 use Rattle.asm_core.specs.declared.placement.Placement.{Placement}
 use Rattle.asm_core.specs.declared.finding.Rule.{Rule}
 use Rattle.asm_core.specs.declared.finding.Cell.{Cell}
-use Rattle.blk_deps.specs.Cells.{reg_at, place_at, place_cells, byte_cell, flag_cell}
+use Rattle.blk_deps.specs.Cells.{reg_at, place_at, place_cells, byte_cell}
 use Rattle.blk_deps.specs.Facts.{Facts}
 use Rattle.blk_deps.specs.Operands.{numbers_in, is_place, is_none_held, holders, is_lone, is_input_place, name_of, is_output_at}
-use Rattle.blk_deps.specs.Rules.{registers, all_places, same_cell, is_undeclared, is_kept, kept_cells, result_cells, used_at_end, places_named, is_changed, breaks_w1, breaks_w2, breaks_w3, breaks_u3, breaks_by_end, breaks_by_use, breaks_at_end}
+use Rattle.blk_deps.specs.Rules.{registers, all_places, same_cell, is_undeclared, is_kept, kept_cells, used_at_end, places_named, is_changed, breaks_w1, breaks_w2, breaks_u3, breaks_by_end}
 use Rattle.blk_deps.specs.Findings.{alone, registers_alone, operands_alone, flags_alone, place_names, pairs_of, violations_of}
 use Rattle.blk_deps.specs.declared.violation.Violation.{Violation}
 use Rattle.blk_deps.specs.declared.fact.Property.TheVariants.{NotEntryOf, Pair}
@@ -25,7 +24,6 @@ use Rattle.blk_frame.specs.World.{Placed}
 use Rattle.blk_frame.specs.Matches.{IsGood, IsKept}
 use Rattle.blk_frame.specs.Shown.{register_under, number_or, is_numbered, address_under, placed_by}
 use Rattle.blk_frame.specs.Accepted.{EndsSound}
-use Rattle.blk_frame.proofs.Basics.{by_truth}
 use Rattle.blk_frame.proofs.Members.{any_in, in_front, in_back, in_filter, in_map, in_flat, in_range}
 use Rattle.blk_frame.proofs.Names.{same_name, held_name, name_listed, register_listed}
 

@@ -1,10 +1,8 @@
 -- Where every place in a byte of a register has its own value of the entry, the byte is the entry's.
-use Rattle.std.proofs.Common.{◌≡◌, ℕ, ◌+◌, ◌*◌, ◌/◌, ◌%◌, ◌^◌, ◌<◌, Bool, true, false, sym, ap, ◌∙◌, arith}
+use Rattle.std.proofs.Common.{◌≡◌, ℕ, ◌/◌, ◌%◌, ◌^◌, ◌<◌, true, sym, ap, ◌∙◌, arith}
 use Rattle.asm_core.specs.RowLaws as laws
 use Rattle.blk_deps.specs.Cells.{place_of, byte_of}
 use Rattle.blk_deps.specs.Facts.{Facts}
-use Rattle.blk_deps.specs.declared.fact.Property.TheVariants.{NotEntryOf}
-use Rattle.blk_deps.specs.declared.fact.Fact.TheVariants.{Has}
 use Rattle.blk_frame.specs.World.{Placed, World, is_register_byte, in_register_byte}
 use Rattle.blk_frame.specs.Matches.{IsKept, IsShadowed, Matches, IsBeside, HasTop}
 

@@ -8,7 +8,6 @@ use Rattle.asm_core.specs.declared.reg.Reg.{Reg}
 use Rattle.asm_core.specs.declared.sym.Place.{Place}
 use Rattle.asm_core.specs.declared.inst.Repeat.{Repeat}
 use Rattle.asm_core.specs.declared.placement.Placement.{Placement}
-use Rattle.asm_core.specs.Placement.{IsAllowed}
 use Rattle.asm_core.specs.Steps.{Stand}
 use Rattle.asm_core.specs.declared.sym.Sym.{Sym}
 use Rattle.asm_core.specs.declared.shape.Shape.{Shape}
@@ -35,6 +34,7 @@ use Rattle.blk_frame.proofs.Turns.{HandsComputed, turn_matches}
 use Rattle.blk_frame.proofs.Repeats.{computed_at, turn_writes, turn_reads, turn_apart}
 use Rattle.blk_frame.proofs.LineSteps.{given, writable, next, next_shows, next_matches, next_top}
 use Rattle.blk_frame.proofs.TableSteps.{table_step}
+use Rattle.blk_frame.proofs.StackKept.{stack_kept}
 use Rattle.blk_frame.proofs.EndRules.{reg_back, place_kept}
 use Rattle.blk_frame.proofs.AccessRules.{not_overwritten}
 use Rattle.blk_frame.proofs.PathRules.{end_sound, pass_sound}
@@ -147,6 +147,10 @@ facts_held table = record {
     tops = entry_tops (placed_by i s p) m i live s;
   };
   step = holds_behind table;
+  stack = λ i s depth line x step. stack_kept i s x.at depth line x.before x.after
+      (table_step table i s depth line x step.interface step.placed step.of_shape step.plain step.stepped step.copies
+      step.at_depth
+      step.few step.room);
   turn = holds_again table;
   registers = λ i s p entry m facts r interface states holds kept. same_register i s p entry m facts holds interface
       states r kept;

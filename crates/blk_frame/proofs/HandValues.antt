@@ -1,43 +1,34 @@
 -- Values for the hands of a step: a copy is what its cell holds, and what is put last is what the step leaves.
-use Rattle.std.proofs.Common.{◌≡◌, inl, inr, ℕ, zero, suc, ◌+◌, ◌-◌, ◌*◌, ◌<◌, ◌≤◌, ◌==◌, ◌&&◌, nat_lt, Bool, true, false, List, [], ◌∷◌, ◌++◌, map, length, drop, Option, None, Some, slice_get, slice_index, if◌then◌else◌, refl, sym, ap, subst, ◌∙◌, arith, append_assoc}
-use Rattle.std.specs.List.{range_with_len, filter_map, cons_option}
-use Rattle.std.proofs.lemmas.Bool.{cases_Bool, and_parts, and_from, ltb-true, lt-ltb, le-ltb, both_ways}
-use Rattle.asm_core.specs.Entries.{write_to, write_of, writes_of, by_of, copied, line_arg, register_arg_of, pointed_arg, slice_with}
+use Rattle.std.proofs.Common.{◌≡◌, ℕ, zero, suc, ◌+◌, ◌-◌, ◌*◌, ◌<◌, ◌≤◌, ◌&&◌, nat_lt, Bool, true, false, List, [], ◌∷◌, ◌++◌, map, None, Some, slice_get, slice_index, if◌then◌else◌, refl, sym, ap, subst, ◌∙◌, arith, append_assoc}
+use Rattle.std.specs.List.{range_with_len}
+use Rattle.std.proofs.lemmas.Bool.{and_parts, ltb-true, le-ltb}
 use Rattle.asm_core.specs.Machine.{reg_in}
-use Rattle.asm_core.specs.MicroOps.{sized, first_of, bytes_named}
-use Rattle.asm_core.specs.Reading.Placed.{placed_place, operand_under}
+use Rattle.asm_core.specs.MicroOps.{first_of, bytes_named}
+use Rattle.asm_core.specs.Reading.Placed.{operand_under}
 use Rattle.asm_core.specs.RowLaws as laws
 use Rattle.asm_core.specs.RowLaws.{Component, component_in, written_byte, operand_byte, byte_by, source_byte, operand_value, held, IsLast, LeavesCopies}
 use Rattle.asm_core.specs.WellFormed.{IsInterface}
-use Rattle.asm_core.specs.declared.reg.Reg.{Reg}
 use Rattle.asm_core.specs.declared.reg.Slice.{Slice}
 use Rattle.asm_core.specs.declared.sym.Place.{Place}
 use Rattle.asm_core.specs.declared.sym.Arg.{Arg}
 use Rattle.asm_core.specs.declared.sym.Sym.{Sym}
 use Rattle.asm_core.specs.declared.row.Source.{Source}
 use Rattle.asm_core.specs.declared.row.By.{By}
-use Rattle.asm_core.specs.declared.row.Written.{Written}
 use Rattle.asm_core.specs.declared.row.Write.{Write}
-use Rattle.asm_core.specs.declared.micro_op.Site.{Site}
-use Rattle.asm_core.specs.declared.micro_op.Input.{Input}
-use Rattle.asm_core.specs.declared.micro_op.Target.{Target}
-use Rattle.asm_core.specs.declared.micro_op.Function.{Function}
-use Rattle.asm_core.specs.declared.micro_op.MicroOp.{MicroOp}
 use Rattle.asm_core.specs.declared.shape.Shape.{Shape}
 use Rattle.asm_core.specs.declared.interface.Interface.{Interface}
-use Rattle.asm_core.specs.declared.inst.InstArg.{InstArg}
 use Rattle.asm_core.specs.declared.placement.Placement.{Placement}
 use Rattle.asm_core.specs.declared.machine.Machine.{Machine}
 use Rattle.blk_deps.specs.Cells.{place_number, byte_cell, word_cell, slice_first, place_of, byte_of, is_byte}
 use Rattle.blk_deps.specs.Operands.{is_place}
-use Rattle.blk_deps.specs.Line.{line_reads, reads_from, read_for, copy_of, copied_cell, byte_there, word_byte, source_names, writes_in}
+use Rattle.blk_deps.specs.Line.{line_reads, reads_from, read_for, copy_of, copied_cell, writes_in}
 use Rattle.blk_deps.specs.declared.step.Read.{Read}
-use Rattle.blk_frame.specs.World.{Placed, World, is_register_byte, value_in, IsCopied, AreCopied}
-use Rattle.blk_frame.specs.Shown.{shown, IsSeen, Shows, placed_by}
+use Rattle.blk_frame.specs.World.{Placed, World, value_in, IsCopied, AreCopied}
+use Rattle.blk_frame.specs.Shown.{Shows, placed_by}
 use Rattle.blk_frame.specs.Lines.{left_at, hand_value, hand_for, hands_from, hands_of}
-use Rattle.blk_frame.proofs.ByteWrites.{LiesIn, cell_in_register, cell_place, cell_byte}
+use Rattle.blk_frame.proofs.ByteWrites.{cell_in_register, cell_place, cell_byte}
 use Rattle.blk_frame.proofs.Places.{lies_in}
-use Rattle.blk_frame.proofs.LineWrites.{IsThere, register_there}
+use Rattle.blk_frame.proofs.LineWrites.{IsThere}
 
 -- ---- reads and hands go together
 

@@ -1,7 +1,7 @@
 -- Hands keep their values while they are put down.
-use Rattle.std.proofs.Common.{◌≡◌, ℕ, ◌+◌, ◌<◌, ◌≤◌, ◌==◌, ◌++◌, Bool, true, false, List, [], ◌∷◌, refl, sym, ap, subst, ◌∙◌, arith}
+use Rattle.std.proofs.Common.{◌≡◌, ℕ, ◌++◌, true, false, List, [], ◌∷◌, refl, sym, ap, ◌∙◌, arith}
 use Rattle.std.proofs.lemmas.Bool.{both_ways, le-leb, ne_eqb, and_parts}
-use Rattle.blk_deps.specs.Cells.{is_byte, is_hand, hand_cell}
+use Rattle.blk_deps.specs.Cells.{is_hand, hand_cell}
 use Rattle.blk_deps.specs.declared.step.Put.{Put}
 use Rattle.blk_frame.specs.World.{Placed, World, after_put, after_puts, IsWritable, AreWritable}
 use Rattle.blk_frame.proofs.Basics.{byte_no_hand}

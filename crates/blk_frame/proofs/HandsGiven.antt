@@ -1,6 +1,6 @@
 -- The hands of a step give what the step leaves where they are put last.
-use Rattle.std.proofs.Common.{◌≡◌, inl, inr, ℕ, zero, suc, ◌+◌, ◌*◌, ◌<◌, ◌≤◌, Bool, List, [], ◌∷◌, ◌++◌, map, drop, Option, None, Some, slice_get, slice_index, refl, sym, ap, subst, ◌∙◌, arith}
-use Rattle.std.specs.List.{range_with_len, filter_map, cons_option}
+use Rattle.std.proofs.Common.{◌≡◌, ℕ, zero, suc, ◌+◌, ◌<◌, ◌≤◌, List, [], ◌∷◌, ◌++◌, map, Option, None, Some, slice_get, slice_index, refl, sym, ap, subst, ◌∙◌, arith}
+use Rattle.std.specs.List.{range_with_len, cons_option}
 use Rattle.asm_core.specs.Entries.{write_to, write_of, writes_of, by_of, line_arg, slice_with, register_arg_of, pointed_arg, first_in_name}
 use Rattle.asm_core.specs.MicroOps.{sized}
 use Rattle.asm_core.specs.Reading.Placed.{operand_under}
@@ -11,7 +11,6 @@ use Rattle.asm_core.specs.declared.flag.Flag.{Flag}
 use Rattle.asm_core.specs.declared.sym.Sym.{Sym}
 use Rattle.asm_core.specs.declared.row.Source.{Source}
 use Rattle.asm_core.specs.declared.row.By.{By}
-use Rattle.asm_core.specs.declared.row.Written.{Written}
 use Rattle.asm_core.specs.declared.row.Write.{Write}
 use Rattle.asm_core.specs.declared.micro_op.Site.{Site}
 use Rattle.asm_core.specs.declared.micro_op.Input.{Input}

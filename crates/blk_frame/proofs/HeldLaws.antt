@@ -1,5 +1,5 @@
 -- What the facts say of registers, flags and addresses.
-use Rattle.std.proofs.Common.{◌≡◌, inl, inr, ℕ, ◌+◌, ◌*◌, ◌%◌, ◌^◌, ◌<◌, ◌-◌, ◌==◌, ◌&&◌, ◌||◌, Bool, true, false, List, [], ◌∷◌, ◌++◌, Option, None, Some, is_some, All, if◌then◌else◌, refl, sym, ap, subst, ◌∙◌, arith}
+use Rattle.std.proofs.Common.{◌≡◌, inl, inr, ℕ, ◌+◌, ◌*◌, ◌%◌, ◌^◌, ◌<◌, ◌-◌, ◌||◌, Bool, true, false, List, [], ◌∷◌, ◌++◌, Option, None, Some, refl, sym, ap, subst, ◌∙◌, arith}
 use Rattle.std.proofs.lemmas.Bool.{both_ways, and_from, lt-ltb, eq-eqb, or_left, or_right}
 use Rattle.asm_core.specs.Lists.{IsMember}
 use Rattle.asm_core.specs.Reg.{reg_number}
@@ -7,9 +7,8 @@ use Rattle.asm_core.specs.Flag.{flag_number, flag_in}
 use Rattle.asm_core.specs.Function.{bit}
 use Rattle.asm_core.specs.Machine.{reg_in}
 use Rattle.asm_core.specs.Memory.{modulo, base_in, index_in, address_of}
-use Rattle.asm_core.specs.Placement.{spot_of, form_registers, address_registers}
+use Rattle.asm_core.specs.Placement.{spot_of, form_registers}
 use Rattle.asm_core.specs.Reading.Placed.{placed_place}
-use Rattle.asm_core.specs.RowLaws as laws
 use Rattle.asm_core.specs.RowLaws.{Component}
 use Rattle.asm_core.specs.WellFormed.{IsInterface}
 use Rattle.asm_core.specs.declared.reg.Reg.{Reg}
@@ -23,7 +22,7 @@ use Rattle.asm_core.specs.declared.placement.Spot.{Spot}
 use Rattle.asm_core.specs.declared.placement.Placement.{Placement}
 use Rattle.asm_core.specs.declared.machine.Machine.{Machine}
 use Rattle.asm_core.proofs.MachineLaws.{reg_number_small, word_small}
-use Rattle.blk_deps.specs.Cells.{place_at, byte_cell, flag_cell, place_of, byte_of}
+use Rattle.blk_deps.specs.Cells.{place_at, byte_cell, flag_cell, place_of}
 use Rattle.blk_deps.specs.Facts.{Facts}
 use Rattle.blk_deps.specs.Operands.{is_place, is_operand_place}
 use Rattle.blk_deps.specs.declared.fact.Fact.TheVariants.{Overwrites}

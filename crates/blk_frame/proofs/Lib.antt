@@ -27,3 +27,4 @@ pub mod AccessRules
 pub mod PathRules
 pub mod Turns
 pub mod Repeats
+pub mod StackKept

@@ -1,8 +1,7 @@
 -- A step of a placed line: the world has what the step leaves, and the facts hold of it.
-use Rattle.std.proofs.Common.{◌≡◌, inl, inr, ℕ, ◌+◌, ◌*◌, ◌<◌, ◌≤◌, Bool, true, false, List, Option, None, Some, slice_get, slice_index, refl, sym, ap, subst, ◌∙◌, arith}
-use Rattle.std.proofs.lemmas.Bool.{lt-leb, le-leb, cases_eq}
-use Rattle.asm_core.specs.Entries.{arg_or_zero, line_arg, writes_of}
-use Rattle.asm_core.specs.Flag.{flag_number}
+use Rattle.std.proofs.Common.{◌≡◌, ℕ, ◌+◌, Bool, Option, None, Some, slice_get, slice_index, refl, sym, ap, ◌∙◌, arith}
+use Rattle.std.proofs.lemmas.Bool.{lt-leb, le-leb}
+use Rattle.asm_core.specs.Entries.{arg_or_zero, line_arg}
 use Rattle.asm_core.specs.Rows.{entry_row}
 use Rattle.asm_core.specs.RowLaws.{Component, component_in, IsToldByOne, IsPlaced}
 use Rattle.asm_core.specs.Reading.Placed.{operand_under}
@@ -13,7 +12,7 @@ use Rattle.asm_core.specs.declared.shape.Shape.{Shape}
 use Rattle.asm_core.specs.declared.interface.Interface.{Interface}
 use Rattle.asm_core.specs.declared.placement.Placement.{Placement}
 use Rattle.asm_core.specs.declared.machine.Machine.{Machine}
-use Rattle.blk_deps.specs.Cells.{is_hand, flag_cell, hand_cell}
+use Rattle.blk_deps.specs.Cells.{flag_cell, hand_cell}
 use Rattle.blk_deps.specs.Facts as facts
 use Rattle.blk_deps.specs.Facts.{Facts}
 use Rattle.blk_deps.specs.Line.{writes_in, line_reads, line_puts}
@@ -21,6 +20,7 @@ use Rattle.blk_frame.specs.World.{Placed, ArePlaced, World, with_hands, after_pu
 use Rattle.blk_frame.specs.Matches.{IsShadowed, Matches, HasTop}
 use Rattle.blk_frame.specs.Shown.{shown, IsSeen, Shows, placed_by}
 use Rattle.blk_frame.specs.Lines.{NamesPlaces, IsOfShape, IsStepOfLine, hands_of}
+use Rattle.blk_frame.proofs.Basics.{either_way}
 use Rattle.blk_frame.proofs.Hands.{HoldsHands}
 use Rattle.blk_frame.proofs.Places.{named_of}
 use Rattle.blk_frame.proofs.LineWrites.{IsThere}
@@ -46,9 +46,6 @@ args_there i s p line interface placed of_shape k = by_arg (slice_get line.args 
     by_arg : (arg : Option Arg) → slice_get line.args k ≡ arg → IsThere i s p (arg_or_zero arg)
     by_arg None is = tt
     by_arg (Some arg) is = one arg (of_shape.each k arg is) (placed.each k arg is)
-
-either_way : {P : Type 0} (a b : ℕ) → (P → a ≡ b) → ((P → ⊥) → a ≡ b) → a ≡ b
-either_way a b if_so if_not = elim (cases_eq a b) [ inl same ↦ same | inr other ↦ if_not (λ is. other (if_so is)) ]
 
 -- hands aren't shown
 hands_unshown : (given : ℕ → ℕ) (w : World) (c : Component) → IsSeen c → shown (with_hands given w) c ≡ shown w c

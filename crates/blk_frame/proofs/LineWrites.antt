@@ -1,27 +1,20 @@
 -- What the writes of a line do to the world, as it is placed.
-use Rattle.std.proofs.Common.{◌≡◌, inl, inr, ℕ, zero, suc, ◌+◌, ◌-◌, ◌*◌, ◌<◌, ◌≤◌, ◌==◌, ◌&&◌, ◌||◌, nat_lt, Bool, true, false, List, [], ◌∷◌, ◌++◌, length, drop, Option, None, Some, slice_get, slice_index, if◌then◌else◌, refl, sym, ap, subst, ◌∙◌, arith}
-use Rattle.std.specs.List.{range_with_len, flat_map, filter_map, cons_option}
-use Rattle.std.proofs.lemmas.Bool.{cases_Bool, lt-ltb, eqb-true, eqb-false}
-use Rattle.asm_core.specs.Entries.{write_to, write_of, writes_of, by_of, line_arg, register_arg_of, pointed_arg}
-use Rattle.asm_core.specs.Flag.{flag_number}
+use Rattle.std.proofs.Common.{◌≡◌, ℕ, ◌+◌, ◌-◌, ◌||◌, Bool, true, false, [], Option, None, Some, refl, sym, ap, subst}
+use Rattle.std.proofs.lemmas.Bool.{lt-ltb}
+use Rattle.asm_core.specs.Entries.{register_arg_of}
 use Rattle.asm_core.specs.Reg.{reg_number}
 use Rattle.asm_core.specs.Reading.Placed.{placed_place, spot_form, operand_under, placed_disp, placed_base, placed_index}
 use Rattle.asm_core.specs.Reading.Text.{memory_arg, number_arg, address_arg}
 use Rattle.asm_core.specs.Placement.{spot_of}
-use Rattle.asm_core.specs.RowLaws.{Component, component_in, written_byte, operand_byte, IsToldByte, IsTold, IsToldByOne, IsLast}
+use Rattle.asm_core.specs.RowLaws.{Component, operand_byte}
 use Rattle.asm_core.specs.declared.reg.Reg.{Reg}
 use Rattle.asm_core.specs.declared.reg.Slice.{Slice}
-use Rattle.asm_core.specs.declared.flag.Flag.{Flag}
 use Rattle.asm_core.specs.declared.sym.Disp.{Disp}
 use Rattle.asm_core.specs.declared.sym.Place.{Place}
 use Rattle.asm_core.specs.declared.sym.Arg.{Arg}
-use Rattle.asm_core.specs.declared.sym.Sym.{Sym}
 use Rattle.asm_core.specs.declared.row.By.{By}
 use Rattle.asm_core.specs.declared.row.Written.{Written}
 use Rattle.asm_core.specs.declared.row.Write.{Write}
-use Rattle.asm_core.specs.declared.micro_op.Site.{Site}
-use Rattle.asm_core.specs.declared.micro_op.Target.{Target}
-use Rattle.asm_core.specs.declared.micro_op.MicroOp.{MicroOp}
 use Rattle.asm_core.specs.declared.shape.Shape.{Shape}
 use Rattle.asm_core.specs.declared.interface.Interface.{Interface}
 use Rattle.asm_core.specs.declared.inst.InstArg.{InstArg}
@@ -32,13 +25,11 @@ use Rattle.asm_core.specs.WellFormed.{IsInterface}
 use Rattle.asm_core.proofs.MachineLaws.{reg_number_small}
 use Rattle.blk_deps.specs.Cells.{place_number}
 use Rattle.blk_deps.specs.Operands.{is_place, is_operand_place}
-use Rattle.blk_deps.specs.Line.{puts_to, put_store, puts_from}
-use Rattle.blk_deps.specs.declared.step.Put.{Put}
+use Rattle.blk_deps.specs.Line.{puts_to, put_store}
 use Rattle.blk_frame.specs.World.{Placed, World, after_puts, AreWritable}
 use Rattle.blk_frame.specs.Shown.{shown, IsSeen, placed_by}
-use Rattle.blk_frame.proofs.Hands.{HoldsHands, puts_hold, puts_append, writable_append}
 use Rattle.blk_frame.proofs.Places.{lies_in}
-use Rattle.blk_frame.proofs.OpWrites.{WritesWell, register_writes, push_writes, any_flag_writes}
+use Rattle.blk_frame.proofs.OpWrites.{WritesWell, register_writes}
 
 -- what a register operand of a placed line is: a place of the shape, in a register
 abbrev pub IsThere : Interface → Shape → Placement → Arg → Type 0

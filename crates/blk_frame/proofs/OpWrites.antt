@@ -1,11 +1,9 @@
 -- What one write of a line does to the world: what it tells has the values of its hands, and all else is as before.
-use Rattle.std.proofs.Common.{◌≡◌, inl, inr, ℕ, ◌+◌, ◌*◌, ◌<◌, ◌≤◌, ◌==◌, ◌&&◌, nat_lt, Bool, true, false, List, [], ◌∷◌, length, Option, None, Some, slice_get, if◌then◌else◌, refl, sym, ap, subst, ◌∙◌, arith}
-use Rattle.std.specs.List.{range_with_len, flat_map}
+use Rattle.std.proofs.Common.{◌≡◌, ℕ, ◌+◌, ◌*◌, ◌<◌, true, [], ◌∷◌, Some, refl, sym, ap, subst, ◌∙◌, arith}
 use Rattle.asm_core.specs.Flag.{flag_number}
-use Rattle.asm_core.specs.Memory.{address_of}
 use Rattle.asm_core.specs.MicroOps.{first_of, bytes_named}
-use Rattle.asm_core.specs.Reading.Placed.{placed_place, operand_under}
-use Rattle.asm_core.specs.RowLaws.{Component, written_byte, operand_byte, IsToldByte}
+use Rattle.asm_core.specs.Reading.Placed.{placed_place}
+use Rattle.asm_core.specs.RowLaws.{Component, written_byte, IsToldByte}
 use Rattle.asm_core.specs.declared.reg.Reg.{Reg}
 use Rattle.asm_core.specs.declared.reg.Slice.{Slice}
 use Rattle.asm_core.specs.declared.flag.Flag.{Flag}
@@ -16,15 +14,15 @@ use Rattle.asm_core.specs.declared.row.Written.{Written}
 use Rattle.asm_core.specs.declared.row.Write.{Write}
 use Rattle.asm_core.specs.declared.shape.Shape.{Shape}
 use Rattle.asm_core.specs.declared.interface.Interface.{Interface}
-use Rattle.asm_core.specs.declared.inst.InstArg.{InstArg}
 use Rattle.asm_core.specs.declared.placement.Placement.{Placement}
 use Rattle.asm_core.specs.declared.machine.Machine.{Machine}
 use Rattle.blk_deps.specs.Cells.{place_number, slice_first, flag_cell}
 use Rattle.blk_deps.specs.Operands.{is_place}
-use Rattle.blk_deps.specs.Line.{puts_to, put_store, put_flag, set_direction}
+use Rattle.blk_deps.specs.Line.{puts_to, put_flag}
 use Rattle.blk_deps.specs.declared.step.Put.{Put}
 use Rattle.blk_frame.specs.World.{Placed, World, after_puts, AreWritable}
-use Rattle.blk_frame.specs.Shown.{shown, IsSeen, placed_by}
+use Rattle.blk_frame.specs.Shown.{shown, IsSeen}
+use Rattle.blk_frame.proofs.Basics.{same_some}
 use Rattle.blk_frame.proofs.Hands.{HoldsHands}
 use Rattle.blk_frame.proofs.ByteWrites.{LiesIn, bytes_writable, bytes_elsewhere, bytes_at}
 use Rattle.blk_frame.proofs.PlainWrites.{flag_writable, flag_at, flag_elsewhere, words_writable, words_elsewhere, words_at}
@@ -64,11 +62,8 @@ module _ (i : Interface) (s : Shape) (p : Placement) (x : Placed) (m : Machine) 
           (slice_first slice + first) hand count 0 v c seen
           (λ o le lt same. untold (o, omega (arith, lt), byte_told o ∙ ap Some (sym same)));
       at = λ given v c o holds seen lt told. there given v c o holds seen lt
-          (some_equal _ _ (sym (byte_told o) ∙ told));
+          (same_some _ _ (sym (byte_told o) ∙ told));
     } where
-      some_equal : (c d : Component) → Some c ≡ Some d → c ≡ d
-      some_equal c d e = ap (λ q. elim q [ None ↦ c | Some h ↦ h ]) e
-
       there : (given : ℕ → ℕ) (v : World) (c : Component) (o : ℕ) → HoldsHands given v → IsSeen c → o < count
           → Component.RegisterByte r (slice_first slice + first + o) ≡ c
           → shown (after_puts x (puts_to i s depth hand to_register to_register.to) v) c ≡ given (hand + o)
@@ -92,11 +87,8 @@ module _ (i : Interface) (s : Shape) (p : Placement) (x : Placed) (m : Machine) 
       writable = words_writable x depth room hand 4 0;
       elsewhere = λ v c seen untold. words_elsewhere x depth room hand 4 0 v c seen
           (λ o le lt same. untold (o, omega (arith, lt), word_told o ∙ ap Some (sym same)));
-      at = λ given v c o holds seen lt told. there given v c o holds lt (some_equal _ _ (sym (word_told o) ∙ told));
+      at = λ given v c o holds seen lt told. there given v c o holds lt (same_some _ _ (sym (word_told o) ∙ told));
     } where
-      some_equal : (c d : Component) → Some c ≡ Some d → c ≡ d
-      some_equal c d e = ap (λ q. elim q [ None ↦ c | Some h ↦ h ]) e
-
       there : (given : ℕ → ℕ) (v : World) (c : Component) (o : ℕ) → HoldsHands given v → o < 4
           → Component.ScratchByte (4 * depth + o) ≡ c
           → shown (after_puts x (puts_to i s depth hand to_push to_push.to) v) c ≡ given (hand + o)
@@ -116,11 +108,8 @@ module _ (i : Interface) (s : Shape) (p : Placement) (x : Placed) (m : Machine) 
         writable = subst (AreWritable x) (sym one) (flag_writable x f hand low, tt);
         elsewhere = λ v c seen untold. ap (λ l. shown (after_puts x l v) c) one
             ∙ flag_elsewhere x f hand low v c seen (λ same. untold (0, omega arith, ap Some (sym same)));
-        at = λ given v c o holds seen lt told. there given v c o holds lt (some_equal _ _ told);
+        at = λ given v c o holds seen lt told. there given v c o holds lt (same_some _ _ told);
       } where
-        some_equal : (c d : Component) → Some c ≡ Some d → c ≡ d
-        some_equal c d e = ap (λ q. elim q [ None ↦ c | Some h ↦ h ]) e
-
         there : (given : ℕ → ℕ) (v : World) (c : Component) (o : ℕ) → HoldsHands given v → o < 1
             → Component.FlagBit f ≡ c
             → shown (after_puts x (puts_to i s depth hand to_flag to_flag.to) v) c ≡ given (hand + o)
@@ -130,31 +119,25 @@ module _ (i : Interface) (s : Shape) (p : Placement) (x : Placed) (m : Machine) 
             ∙ flag_at x f hand low v ∙ holds.each hand ∙ ap given (omega (arith, lt))
 
   -- the direction flag is no cell
+  unseen : (c : Component) → IsSeen c → Some (Component.FlagBit Flag.Df) ≡ Some c → ⊥
+  unseen c seen told = let low : 6 < 6 = subst IsSeen (sym (same_some _ _ told)) seen in omega (arith, low)
+
   direction_writes : (hand : ℕ) (by : By) → WritesWell hand (to_flag Flag.Df hand by)
   direction_writes hand (By.Set on) = record {
     writable = (tt, tt);
     elsewhere = λ v c seen untold. refl;
     at = λ given v c o holds seen lt told. absurd (unseen c seen told);
-  } where
-    unseen : (c : Component) → IsSeen c → Some (Component.FlagBit Flag.Df) ≡ Some c → ⊥
-    unseen c seen told = let low : 6 < 6 = subst IsSeen
-        (sym (ap (λ q. elim q [ None ↦ c | Some h ↦ h ]) told)) seen in omega (arith, low)
+  }
   direction_writes hand (By.Copy source first) = record {
     writable = tt;
     elsewhere = λ v c seen untold. refl;
     at = λ given v c o holds seen lt told. absurd (unseen c seen told);
-  } where
-    unseen : (c : Component) → IsSeen c → Some (Component.FlagBit Flag.Df) ≡ Some c → ⊥
-    unseen c seen told = let low : 6 < 6 = subst IsSeen
-        (sym (ap (λ q. elim q [ None ↦ c | Some h ↦ h ]) told)) seen in omega (arith, low)
+  }
   direction_writes hand By.Named = record {
     writable = tt;
     elsewhere = λ v c seen untold. refl;
     at = λ given v c o holds seen lt told. absurd (unseen c seen told);
-  } where
-    unseen : (c : Component) → IsSeen c → Some (Component.FlagBit Flag.Df) ≡ Some c → ⊥
-    unseen c seen told = let low : 6 < 6 = subst IsSeen
-        (sym (ap (λ q. elim q [ None ↦ c | Some h ↦ h ]) told)) seen in omega (arith, low)
+  }
 
   pub any_flag_writes : (f : Flag) (hand : ℕ) (by : By) → WritesWell hand (to_flag f hand by)
   any_flag_writes Flag.Cf hand by = flag_writes Flag.Cf hand by (omega arith) refl

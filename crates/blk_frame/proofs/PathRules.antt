@@ -1,14 +1,11 @@
 -- Where no rule of paths is broken, the facts of each path break none.
-use Rattle.std.proofs.Common.{◌≡◌, ℕ, List, Bool, true, Some, slice_get, slice_index, refl}
+use Rattle.std.proofs.Common.{◌≡◌, ℕ, List, Some, slice_get, slice_index, refl}
 use Rattle.std.proofs.lemmas.Bool.{false_from_ne_true}
-use Rattle.asm_core.specs.Lists.{IsMember}
 use Rattle.asm_core.specs.declared.lines.Graph.{Graph}
 use Rattle.asm_core.specs.declared.sym.Sym.{Sym}
-use Rattle.asm_core.specs.declared.shape.Shape.{Shape}
-use Rattle.asm_core.specs.declared.interface.Interface.{Interface}
-use Rattle.dataflow.specs.Paths.{IsPathTo, facts_along}
+use Rattle.dataflow.specs.Paths.{IsPathTo}
 use Rattle.blk_deps.specs.Ways.{size_of, goes, line_number}
-use Rattle.blk_deps.specs.Findings.{Setting, IsSetting, BreaksAt, IsBroken, facts_after, start_of, violations_of}
+use Rattle.blk_deps.specs.Findings.{Setting, BreaksAt, IsBroken}
 use Rattle.blk_deps.specs.Rules.{breaks_at_line, breaks_at_end}
 use Rattle.blk_deps.specs.declared.violation.Violation.{Violation}
 use Rattle.blk_frame.specs.Accepted.{NoneBroken, EndsSound, PassesSound, IsShapeOf, facts_on}

@@ -1,8 +1,7 @@
 -- Where the places are that a placed line names.
-use Rattle.std.proofs.Common.{◌≡◌, inl, inr, ℕ, ◌+◌, ◌-◌, ◌<◌, ◌≤◌, ◌==◌, ◌&&◌, ◌||◌, nat_lt, Bool, true, false, List, length, Option, None, Some, slice_get, is_some, if◌then◌else◌, refl, sym, ap, subst, ◌∙◌, arith}
-use Rattle.std.proofs.lemmas.Bool.{le-ltb, lt-ltb, and_from, and_parts, both_ways, cases_lt}
+use Rattle.std.proofs.Common.{◌≡◌, inl, inr, ℕ, ◌+◌, ◌-◌, ◌<◌, ◌||◌, nat_lt, true, false, List, length, None, Some, slice_get, is_some, refl, sym, ap, ◌∙◌, arith}
+use Rattle.std.proofs.lemmas.Bool.{le-ltb, and_from, and_parts, both_ways, cases_lt}
 use Rattle.std.proofs.lemmas.Option.{slice_get_past}
-use Rattle.asm_core.specs.Reg.{reg_number}
 use Rattle.asm_core.specs.Reading.Placed.{placed_place, operand_under}
 use Rattle.asm_core.specs.WellFormed.{IsInterface}
 use Rattle.asm_core.specs.declared.reg.Reg.{Reg}
@@ -11,9 +10,7 @@ use Rattle.asm_core.specs.declared.sym.Place.{Place}
 use Rattle.asm_core.specs.declared.sym.Arg.{Arg}
 use Rattle.asm_core.specs.declared.shape.Shape.{Shape}
 use Rattle.asm_core.specs.declared.interface.Interface.{Interface}
-use Rattle.asm_core.specs.declared.inst.InstArg.{InstArg}
 use Rattle.asm_core.specs.declared.placement.Placement.{Placement}
-use Rattle.asm_core.proofs.MachineLaws.{reg_number_small}
 use Rattle.blk_deps.specs.Cells.{place_number, place_at}
 use Rattle.blk_deps.specs.Operands.{is_place, is_operand_place}
 use Rattle.blk_frame.specs.Shown.{place_register, register_under, number_or, placed_by}

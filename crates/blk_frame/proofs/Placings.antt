@@ -1,12 +1,11 @@
 -- Allowed placements put places as the facts take it.
-use Rattle.std.proofs.Common.{◌≡◌, inl, inr, ℕ, ◌+◌, ◌-◌, ◌<◌, ◌==◌, ◌&&◌, Bool, true, false, List, [], ◌∷◌, ◌++◌, Option, None, Some, is_some, if◌then◌else◌, refl, sym, ap, subst, ◌∙◌}
-use Rattle.std.specs.List.{list_any}
-use Rattle.std.proofs.lemmas.Bool.{both_ways, eq-eqb, eqb-true, and_parts, and_from, and_right, false_from_ne_true, or_cases}
+use Rattle.std.proofs.Common.{◌≡◌, inl, inr, ℕ, ◌==◌, Bool, true, false, List, [], ◌∷◌, ◌++◌, Option, None, Some, is_some, if◌then◌else◌, refl, sym, ap, subst, ◌∙◌}
+use Rattle.std.proofs.lemmas.Bool.{eq-eqb, eqb-true, and_parts, and_right, or_cases}
 use Rattle.asm_core.specs.Lists.{IsMember}
 use Rattle.asm_core.specs.Reg.{reg_number}
 use Rattle.asm_core.specs.Placement.{spot_of, value_registers, address_registers, IsAllowed}
 use Rattle.asm_core.specs.Reading.Placed.{spot_place, placed_place}
-use Rattle.asm_core.specs.Roomy.{place_registers, ShareRegister}
+use Rattle.asm_core.specs.Roomy.{place_registers}
 use Rattle.asm_core.specs.declared.reg.Reg.{Reg}
 use Rattle.asm_core.specs.declared.sym.Place.{Place}
 use Rattle.asm_core.specs.declared.shape.Shape.{Shape}
@@ -16,10 +15,9 @@ use Rattle.asm_core.specs.declared.placement.Placement.{Placement}
 use Rattle.asm_core.proofs.RegisterLaws.{same_reg}
 use Rattle.blk_deps.specs.Cells.{place_at}
 use Rattle.blk_deps.specs.Operands.{is_place}
-use Rattle.blk_deps.specs.Start.{TellsSharing, MayShare}
+use Rattle.blk_deps.specs.Start.{TellsSharing}
 use Rattle.blk_frame.specs.World.{Placed, ArePlaced}
 use Rattle.blk_frame.specs.Shown.{place_register, register_under, number_or, address_under, is_memory_spot, is_memory_place, is_numbered, placed_by}
-use Rattle.blk_frame.proofs.Basics.{by_truth}
 
 -- ---- one place
 

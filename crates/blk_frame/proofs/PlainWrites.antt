@@ -1,12 +1,11 @@
 -- A write of a flag or of a pushed word: its cells have the values of their hands, and all else is as before.
-use Rattle.std.proofs.Common.{◌≡◌, inl, inr, ℕ, zero, suc, ◌+◌, ◌*◌, ◌<◌, ◌≤◌, ◌==◌, ◌&&◌, nat_lt, ◌++◌, Bool, true, false, List, [], ◌∷◌, if◌then◌else◌, refl, sym, ap, subst, ◌∙◌, arith, slice_index_or}
+use Rattle.std.proofs.Common.{◌≡◌, inl, inr, ℕ, zero, suc, ◌+◌, ◌*◌, ◌<◌, ◌≤◌, List, [], ◌∷◌, refl, sym, ap, subst, ◌∙◌, arith, slice_index_or}
 use Rattle.std.specs.List.{range_with_len, flat_map}
 use Rattle.std.proofs.lemmas.Bool.{eq-eqb, ne_eqb, lt-ltb, le-ltb, lt-leb, cases_lt, cases_eq}
-use Rattle.asm_core.specs.Reg.{reg_number}
 use Rattle.asm_core.specs.Flag.{flag_number}
 use Rattle.asm_core.specs.RowLaws.{Component}
 use Rattle.asm_core.specs.declared.flag.Flag.{Flag}
-use Rattle.blk_deps.specs.Cells.{hand_cell, flag_cell, word_cell, is_byte, is_hand}
+use Rattle.blk_deps.specs.Cells.{hand_cell, flag_cell, word_cell}
 use Rattle.blk_deps.specs.Line.{put_word}
 use Rattle.blk_deps.specs.declared.step.Put.{Put}
 use Rattle.blk_frame.specs.World.{Placed, World, after_put, after_puts, AreWritable, IsWritable}

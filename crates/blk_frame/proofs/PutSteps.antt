@@ -1,14 +1,14 @@
 -- What the facts say still holds once a hand's value is put where it belongs.
-use Rattle.std.proofs.Common.{◌≡◌, inl, inr, ℕ, ◌-◌, ◌<◌, ◌==◌, ◌||◌, ◌&&◌, Bool, true, false, List, [], ◌∷◌, if◌then◌else◌, refl, sym, ap, ◌∙◌}
-use Rattle.std.proofs.lemmas.Bool.{both_ways, eq-eqb, ne_eqb, eqb-true, and_parts, and_from, and_left, false_from_ne_true, cases_eq}
-use Rattle.blk_deps.specs.Cells.{is_byte, is_hand, place_of, byte_of, hand_cell}
+use Rattle.std.proofs.Common.{◌≡◌, inl, inr, ℕ, ◌==◌, ◌&&◌, Bool, true, false, List, [], ◌∷◌, refl, sym, ap, ◌∙◌}
+use Rattle.std.proofs.lemmas.Bool.{both_ways, eq-eqb, ne_eqb, eqb-true, and_parts, and_from, false_from_ne_true, cases_eq}
+use Rattle.blk_deps.specs.Cells.{is_byte, place_of, byte_of, hand_cell}
 use Rattle.blk_deps.specs.Facts as facts
 use Rattle.blk_deps.specs.Facts.{Facts, is_paired, is_overwriting, overwrites_after}
-use Rattle.blk_deps.specs.declared.fact.Property.TheVariants.{NotEntryOf, Pair}
-use Rattle.blk_deps.specs.declared.fact.Fact.TheVariants.{Here, Has, Overwrites}
+use Rattle.blk_deps.specs.declared.fact.Property.TheVariants.{NotEntryOf}
+use Rattle.blk_deps.specs.declared.fact.Fact.TheVariants.{Has, Overwrites}
 use Rattle.blk_deps.specs.declared.step.Put.{Put}
-use Rattle.blk_frame.specs.World.{Placed, ArePlaced, World, is_register_byte, is_address_byte, in_register_byte, with_byte, after_put, after_puts, IsWritable, AreWritable}
-use Rattle.blk_frame.specs.Matches.{IsGood, IsIntact, IsIntactAt, IsShadowed, Matches, IsBeside, HasTop}
+use Rattle.blk_frame.specs.World.{Placed, ArePlaced, World, is_register_byte, is_address_byte, in_register_byte, after_put, after_puts, IsWritable, AreWritable}
+use Rattle.blk_frame.specs.Matches.{IsGood, IsIntact, IsIntactAt, IsShadowed, Matches}
 use Rattle.blk_frame.proofs.Basics.{by_truth, either_false, none_paired, place_below, byte_placed}
 
 -- ---- what a write says of the cells beside it

@@ -1,15 +1,15 @@
 -- What the facts say still holds once values are read into hands, and once hands are forgotten.
-use Rattle.std.proofs.Common.{◌≡◌, inl, inr, ℕ, ◌-◌, ◌<◌, ◌==◌, ◌||◌, ◌&&◌, Bool, true, false, List, Option, None, Some, slice_get, if◌then◌else◌, refl, sym, ap, ◌∙◌}
+use Rattle.std.proofs.Common.{◌≡◌, ℕ, ◌-◌, ◌<◌, true, false, List, Option, None, Some, slice_get, refl, ◌∙◌}
 use Rattle.std.proofs.lemmas.Bool.{both_ways, eq-eqb, and_parts, and_from, or_left, or_right}
-use Rattle.blk_deps.specs.Cells.{is_byte, is_hand, place_of, byte_of}
-use Rattle.blk_deps.specs.Facts.{Facts, has_as_read, has_read, in_hand, after_reads, dropped}
+use Rattle.blk_deps.specs.Cells.{is_byte, is_hand, place_of}
+use Rattle.blk_deps.specs.Facts.{Facts, has_as_read, in_hand, after_reads}
 use Rattle.blk_deps.specs.declared.fact.Property.{Property}
 use Rattle.blk_deps.specs.declared.fact.Property.TheVariants.{NotEntryOf, Pair}
 use Rattle.blk_deps.specs.declared.fact.Fact.{Fact}
 use Rattle.blk_deps.specs.declared.fact.Fact.TheVariants.{Here, Has, Overwrites}
 use Rattle.blk_deps.specs.declared.step.Read.{Read}
 use Rattle.blk_frame.specs.World.{Placed, World, is_register_byte, in_register_byte, value_in, with_hands, IsCopied, AreCopied}
-use Rattle.blk_frame.specs.Matches.{IsGood, IsIntact, Matches, HasTop}
+use Rattle.blk_frame.specs.Matches.{IsGood, IsIntact, Matches}
 use Rattle.blk_frame.proofs.Basics.{by_truth, place_below, byte_no_hand}
 
 -- What holds of facts holds of more.

@@ -1,8 +1,8 @@
 -- A repeated instruction only computes, and writes only registers that are named by themselves and flags.
 use Rattle.std.specs.Prelude.{pos}
-use Rattle.std.proofs.Common.{◌≡◌, inl, inr, ℕ, zero, suc, ◌+◌, ◌-◌, ◌*◌, ◌<◌, ◌≤◌, ◌==◌, ◌&&◌, nat_lt, List, [], ◌∷◌, ◌++◌, length, map, Bool, true, false, Option, None, Some, slice_get, if◌then◌else◌, refl, sym, ap, subst, ◌∙◌, arith}
-use Rattle.std.specs.List.{filter_map, cons_option, flat_map, range_with_len}
-use Rattle.std.proofs.lemmas.Bool.{cases_lt, cases_Bool, ltb-true, and_parts}
+use Rattle.std.proofs.Common.{◌≡◌, ℕ, zero, suc, ◌+◌, ◌<◌, ◌&&◌, nat_lt, List, [], ◌∷◌, ◌++◌, length, map, Bool, true, false, Option, None, Some, slice_get, if◌then◌else◌, refl, sym, ap, subst, ◌∙◌, arith}
+use Rattle.std.specs.List.{cons_option, flat_map, range_with_len}
+use Rattle.std.proofs.lemmas.Bool.{ltb-true, and_parts}
 use Rattle.asm_core.specs.Entries.{write_to, write_of, writes_of, by_of, line_arg}
 use Rattle.asm_core.specs.Reg.{reg_number}
 use Rattle.asm_core.specs.Rows.{is_zero_count, same_register, line_row, entry_row}
@@ -28,11 +28,12 @@ use Rattle.asm_core.specs.declared.micro_op.Input.{Input}
 use Rattle.asm_core.specs.declared.micro_op.Target.{Target}
 use Rattle.asm_core.specs.declared.micro_op.MicroOp.{MicroOp}
 use Rattle.asm_core.proofs.MachineLaws.{reg_number_small}
-use Rattle.blk_deps.specs.Cells.{place_number, byte_cell, place_of, byte_of, slice_first}
+use Rattle.blk_deps.specs.Cells.{byte_cell, place_of, slice_first}
 use Rattle.blk_deps.specs.Operands.{is_place}
 use Rattle.blk_deps.specs.Line.{writes_in, reads_from, read_for, line_reads, line_puts, puts_from, puts_to, put_byte, put_word, put_store, put_flag}
 use Rattle.blk_deps.specs.declared.step.Read.{Read}
 use Rattle.blk_deps.specs.declared.step.Put.{Put}
+use Rattle.blk_frame.proofs.Basics.{same_some}
 use Rattle.blk_frame.proofs.ByteWrites.{cell_place}
 use Rattle.blk_frame.proofs.Turns.{IsApart, IsApartFrom, AreApart}
 
@@ -66,15 +67,12 @@ module _ (line : Sym) (bare : line.args ≡ []) where
   no_arg k = subst (λ args. IsBare (Written.Arg
       (elim (slice_get args k) [ None ↦ Arg.Number (pos 0) | Some arg ↦ arg ]))) (sym bare) tt
 
-  same_write : (v w : Write) → Some v ≡ Some w → v ≡ w
-  same_write v w e = ap (λ o. elim o [ None ↦ v | Some h ↦ h ]) e
-
   -- what is picked is computed
   picked : (site : Site) (x y z : Input) → IsTurnOp (op3 (Target.Site site) Function.Pick x y z)
-  picked (Site.Argument k bytes) x y z w is = subst IsOfTurn (same_write _ w is) (refl, no_arg k)
-  picked (Site.Register r bytes) x y z w is = subst IsOfTurn (same_write _ w is) (refl, tt)
-  picked (Site.Pointed r) x y z w is = subst IsOfTurn (same_write _ w is) (refl, tt)
-  picked (Site.Flag f) x y z w is = subst IsOfTurn (same_write _ w is) (refl, tt)
+  picked (Site.Argument k bytes) x y z w is = subst IsOfTurn (same_some _ w is) (refl, no_arg k)
+  picked (Site.Register r bytes) x y z w is = subst IsOfTurn (same_some _ w is) (refl, tt)
+  picked (Site.Pointed r) x y z w is = subst IsOfTurn (same_some _ w is) (refl, tt)
+  picked (Site.Flag f) x y z w is = subst IsOfTurn (same_some _ w is) (refl, tt)
 
   temporaries : (row : List MicroOp) → AreTurnOps (map as_temporary row)
   temporaries [] = tt

@@ -1,12 +1,10 @@
 -- The writes of a whole row: where the row tells something, the world has at the end what the step leaves there.
-use Rattle.std.proofs.Common.{◌≡◌, inl, inr, ℕ, zero, suc, ◌+◌, ◌*◌, ◌<◌, ◌≤◌, ◌==◌, Bool, true, false, List, [], ◌∷◌, ◌++◌, length, drop, Option, None, Some, slice_get, refl, sym, ap, subst, ◌∙◌, arith}
-use Rattle.std.specs.List.{filter_map, cons_option}
-use Rattle.std.proofs.lemmas.Bool.{cases_eq}
+use Rattle.std.proofs.Common.{◌≡◌, inl, inr, ℕ, zero, suc, ◌+◌, ◌<◌, List, [], ◌∷◌, drop, Option, None, Some, slice_get, refl, sym, ap, subst, ◌∙◌, arith}
+use Rattle.std.specs.List.{cons_option}
 use Rattle.std.proofs.lemmas.List.{drop-drop}
 use Rattle.asm_core.specs.Entries.{write_to, write_of, writes_of, by_of, line_arg, slice_with}
 use Rattle.asm_core.specs.MicroOps.{sized}
-use Rattle.asm_core.specs.Rows.{entry_row}
-use Rattle.asm_core.specs.RowLaws.{Component, component_in, IsToldByte, IsTold, IsToldByOne, IsLast, written_byte}
+use Rattle.asm_core.specs.RowLaws.{Component, component_in, IsToldByte, IsTold, IsToldByOne, IsLast}
 use Rattle.asm_core.specs.WellFormed.{IsInterface}
 use Rattle.asm_core.specs.declared.sym.Sym.{Sym}
 use Rattle.asm_core.specs.declared.row.By.{By}
@@ -22,12 +20,10 @@ use Rattle.blk_deps.specs.Line.{puts_to, puts_from}
 use Rattle.blk_deps.specs.declared.step.Put.{Put}
 use Rattle.blk_frame.specs.World.{Placed, World, after_puts, AreWritable}
 use Rattle.blk_frame.specs.Shown.{shown, IsSeen, placed_by}
+use Rattle.blk_frame.proofs.Basics.{either_way, same_some}
 use Rattle.blk_frame.proofs.Hands.{HoldsHands, puts_hold, puts_append, writable_append}
 use Rattle.blk_frame.proofs.OpWrites.{WritesWell, push_writes, any_flag_writes}
 use Rattle.blk_frame.proofs.LineWrites.{IsThere, arg_writes, register_there, pop_writes}
-
-some_equal : (a b : Write) → Some a ≡ Some b → a ≡ b
-some_equal a b e = ap (λ q. elim q [ None ↦ a | Some h ↦ h ]) e
 
 slice_get-drop : (row : List MicroOp) (k : ℕ) → slice_get row k ≡ slice_get (drop k row) 0
 slice_get-drop row zero = refl
@@ -53,17 +49,17 @@ module _ (i : Interface) (s : Shape) (p : Placement) (interface : IsInterface i)
   target_writes : (target : Target) (by : By) (w : Write) (hand : ℕ) → (target ≡ Target.Push → depth < 16)
       → write_to line by target ≡ Some w → WritesWell i s p x before depth hand w
   target_writes (Target.Site (Site.Argument k bytes)) by w hand fits is = subst (WritesWell i s p x before depth hand)
-      (some_equal _ _ is) (arg_writes i s p interface before depth hand _ _ by (line_arg line k) (there k))
+      (same_some _ _ is) (arg_writes i s p interface before depth hand _ _ by (line_arg line k) (there k))
   target_writes (Target.Site (Site.Register r bytes)) by w hand fits is = subst (WritesWell i s p x before depth hand)
-      (some_equal _ _ is) (arg_writes i s p interface before depth hand _ _ by _
+      (same_some _ _ is) (arg_writes i s p interface before depth hand _ _ by _
       (register_there i s p interface before depth hand 0 0 by r (slice_with (sized line.width bytes))))
   target_writes (Target.Site (Site.Pointed r)) by w hand fits is = subst (WritesWell i s p x before depth hand)
-      (some_equal _ _ is) (arg_writes i s p interface before depth hand _ _ by _ tt)
+      (same_some _ _ is) (arg_writes i s p interface before depth hand _ _ by _ tt)
   target_writes (Target.Site (Site.Flag f)) by w hand fits is = subst (WritesWell i s p x before depth hand)
-      (some_equal _ _ is) (any_flag_writes i s p x before depth f hand by)
-  target_writes Target.Push by w hand fits is = subst (WritesWell i s p x before depth hand) (some_equal _ _ is)
+      (same_some _ _ is) (any_flag_writes i s p x before depth f hand by)
+  target_writes Target.Push by w hand fits is = subst (WritesWell i s p x before depth hand) (same_some _ _ is)
       (push_writes i s p x before depth (fits refl) at_depth hand by)
-  target_writes Target.Pop by w hand fits is = subst (WritesWell i s p x before depth hand) (some_equal _ _ is)
+  target_writes Target.Pop by w hand fits is = subst (WritesWell i s p x before depth hand) (same_some _ _ is)
       (pop_writes i s p interface before depth hand by)
   target_writes target by w hand fits is = cc
 
@@ -107,10 +103,6 @@ module _ (i : Interface) (s : Shape) (p : Placement) (interface : IsInterface i)
     pub at : (given : ℕ → ℕ) (v : World) (c : Component) → GiveLast given hand k ops → HoldsHands given v → IsSeen c
         → IsToldByOne p before (writes_of ops line) c
         → shown (after_puts x (puts_from i s depth hand (writes_of ops line)) v) c ≡ component_in c after
-
-  -- where an answer in numbers follows from something and from its contrary, it holds
-  either_way : {P : Type 0} (a b : ℕ) → (P → a ≡ b) → ((P → ⊥) → a ≡ b) → a ≡ b
-  either_way a b if_so if_not = elim (cases_eq a b) [ inl same ↦ same | inr other ↦ if_not (λ is. other (if_so is)) ]
 
   told_here : (w : Write) (ws : List Write) (c : Component) → (IsToldByOne p before ws c → ⊥)
       → IsToldByOne p before (w ∷ ws) c → IsTold p before w c

@@ -1,23 +1,21 @@
 -- At the entry the facts hold of the state, and each cell is the top of its byte.
-use Rattle.std.proofs.Common.{◌≡◌, inl, inr, ℕ, ◌+◌, ◌-◌, ◌*◌, ◌/◌, ◌%◌, ◌^◌, ◌<◌, ◌≤◌, ◌==◌, ◌&&◌, ◌||◌, nat_lt, not, Bool, true, false, List, slice_index, if◌then◌else◌, refl, sym, ap, ◌∙◌, arith}
-use Rattle.std.proofs.lemmas.Bool.{both_ways, cases_Bool, cases_eq, eq-eqb, ne_eqb, eqb-true, lt-ltb, le-ltb, and_left}
+use Rattle.std.proofs.Common.{◌≡◌, inl, inr, ℕ, ◌+◌, ◌-◌, ◌/◌, ◌%◌, ◌^◌, ◌<◌, ◌≤◌, ◌==◌, nat_lt, not, Bool, true, false, List, slice_index, refl, sym, ap, ◌∙◌, arith}
+use Rattle.std.proofs.lemmas.Bool.{both_ways, cases_eq, eq-eqb, ne_eqb, eqb-true, lt-ltb, le-ltb, and_left}
 use Rattle.asm_core.specs.Flag.{flag_number, flag_in}
 use Rattle.asm_core.specs.Function.{bit}
-use Rattle.asm_core.specs.RowLaws as laws
 use Rattle.asm_core.specs.RowLaws.{Component, component_in}
 use Rattle.asm_core.specs.declared.flag.Flag.{Flag}
 use Rattle.asm_core.specs.declared.shape.Shape.{Shape}
 use Rattle.asm_core.specs.declared.interface.Interface.{Interface}
 use Rattle.asm_core.specs.declared.machine.Machine.{Machine}
-use Rattle.blk_deps.specs.Cells.{is_byte, is_hand, flag_cell, place_of, byte_of}
-use Rattle.blk_deps.specs.Facts.{Facts}
+use Rattle.blk_deps.specs.Cells.{is_hand, flag_cell}
 use Rattle.blk_deps.specs.Start.{at_entry}
 use Rattle.blk_deps.specs.declared.fact.Property.TheVariants.{NotEntryOf}
-use Rattle.blk_deps.specs.declared.fact.Fact.TheVariants.{Here, Has, Overwrites}
-use Rattle.blk_frame.specs.World.{Placed, World, is_register_byte, in_register_byte}
-use Rattle.blk_frame.specs.Matches.{IsGood, IsShadowed, Matches, HasTop}
-use Rattle.blk_frame.specs.Shown.{shown, IsSeen, Shows, plain_value, register_byte, world_of}
-use Rattle.blk_frame.proofs.Basics.{by_truth, either_false}
+use Rattle.blk_deps.specs.declared.fact.Fact.TheVariants.{Has, Overwrites}
+use Rattle.blk_frame.specs.World.{Placed, World, is_register_byte}
+use Rattle.blk_frame.specs.Matches.{IsShadowed, Matches, HasTop}
+use Rattle.blk_frame.specs.Shown.{shown, IsSeen, Shows, plain_value, world_of}
+use Rattle.blk_frame.proofs.Basics.{either_false}
 
 as_bit : (n : ℕ) → n % 2 ≡ bit (n % 2 == 1)
 as_bit n = elim (cases_eq (n % 2) 1) [

@@ -1,16 +1,13 @@
 -- What the facts say still holds behind an instruction, and behind each further turn of a repeated one.
-use Rattle.std.proofs.Common.{◌≡◌, inl, inr, ℕ, ◌-◌, ◌<◌, ◌==◌, ◌||◌, ◌&&◌, Bool, true, false, List, [], ◌∷◌, Some, slice_get, refl, sym, ap, ◌∙◌}
-use Rattle.std.proofs.lemmas.Bool.{both_ways, eq-eqb, ne_eqb, eqb-true, and_parts, and_from, or_left, cases_eq}
-use Rattle.blk_deps.specs.Cells.{is_byte, is_hand, place_of, byte_of, hand_cell}
+use Rattle.std.proofs.Common.{◌≡◌, ℕ, Bool, true, List}
+use Rattle.blk_deps.specs.Cells.{is_hand}
 use Rattle.blk_deps.specs.Facts as facts
 use Rattle.blk_deps.specs.Facts.{Facts, dropped, overwrites_after}
-use Rattle.blk_deps.specs.declared.fact.Property.{Property}
-use Rattle.blk_deps.specs.declared.fact.Property.TheVariants.{NotEntryOf, ComesFrom, Pair}
 use Rattle.blk_deps.specs.declared.fact.Fact.{Fact}
 use Rattle.blk_deps.specs.declared.fact.Fact.TheVariants.{Here, Has, Overwrites, Unwritten, DirectionSet}
 use Rattle.blk_deps.specs.declared.step.Read.{Read}
 use Rattle.blk_deps.specs.declared.step.Put.{Put}
-use Rattle.blk_frame.specs.World.{Placed, ArePlaced, World, with_hands, after_puts, AreCopied, IsWritable, AreWritable}
+use Rattle.blk_frame.specs.World.{Placed, ArePlaced, World, with_hands, after_puts, AreCopied, AreWritable}
 use Rattle.blk_frame.specs.Matches.{IsShadowed, Matches}
 use Rattle.blk_frame.proofs.Basics.{by_truth}
 use Rattle.blk_frame.proofs.ReadSteps.{fewer_matches, reads_match}

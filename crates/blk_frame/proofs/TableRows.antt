@@ -1,7 +1,7 @@
 -- No row of the table copies into a flag.
 use Rattle.std.proofs.Common.{◌≡◌, ℕ, zero, suc, ◌+◌, ◌&&◌, List, [], ◌∷◌, ◌++◌, length, map, Bool, true, false, if◌then◌else◌, None, Some, slice_get, refl, sym, ap, ◌∙◌}
 use Rattle.std.specs.List.{list_all}
-use Rattle.std.proofs.lemmas.Bool.{and_parts, and_from, cases_Bool}
+use Rattle.std.proofs.lemmas.Bool.{and_parts, and_from}
 use Rattle.asm_core.specs.Table.{row_of, is_shift, self_row}
 use Rattle.asm_core.specs.Table.Bits.{no_shift_row}
 use Rattle.asm_core.specs.Rows.{is_zero_count, same_register, line_row, entry_row}

@@ -1,7 +1,7 @@
 -- The steps of the table's lines are steps as the world takes them.
-use Rattle.std.proofs.Common.{◌≡◌, ℕ, ◌<◌, ◌≤◌, ◌||◌, Bool, true, List, [], ◌∷◌, length, zero, suc, Option, None, Some, slice_get, refl, sym, ap, ◌∙◌}
-use Rattle.std.specs.List.{list_any, filter_map, cons_option}
-use Rattle.std.proofs.lemmas.Bool.{or_left, or_right}
+use Rattle.std.proofs.Common.{◌≡◌, ℕ, ◌<◌, ◌≤◌, true, List, [], ◌∷◌, zero, suc, Option, None, Some, slice_get, refl, ap, ◌∙◌}
+use Rattle.std.specs.List.{list_any, cons_option}
+use Rattle.std.proofs.lemmas.Bool.{or_right}
 use Rattle.asm_core.specs.Entries.{write_of, write_to, writes_of, by_of}
 use Rattle.asm_core.specs.Rows.{line_row, entry_row}
 use Rattle.asm_core.specs.RowLaws.{IsPlaced, FitsCopies}
@@ -10,7 +10,6 @@ use Rattle.asm_core.specs.WellFormed.{IsInterface}
 use Rattle.asm_core.specs.declared.sym.Sym.{Sym}
 use Rattle.asm_core.specs.declared.row.By.{By}
 use Rattle.asm_core.specs.declared.row.Write.{Write}
-use Rattle.asm_core.specs.declared.micro_op.Site.{Site}
 use Rattle.asm_core.specs.declared.micro_op.Target.{Target}
 use Rattle.asm_core.specs.declared.micro_op.MicroOp.{MicroOp}
 use Rattle.asm_core.specs.declared.shape.Shape.{Shape}

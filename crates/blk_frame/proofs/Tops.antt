@@ -1,10 +1,9 @@
 -- In each byte of each register lies a cell that is intact.
-use Rattle.std.proofs.Common.{◌≡◌, inl, inr, ℕ, ◌-◌, ◌<◌, ◌==◌, ◌&&◌, Bool, true, false, List, [], ◌∷◌, refl, sym, ap, ◌∙◌}
+use Rattle.std.proofs.Common.{◌≡◌, ℕ, ◌==◌, ◌&&◌, Bool, true, false, List, [], ◌∷◌, sym, ap, ◌∙◌}
 use Rattle.std.proofs.lemmas.Bool.{both_ways, eq-eqb, eqb-true, and_parts, and_from, false_from_ne_true}
 use Rattle.blk_deps.specs.Cells.{place_of, byte_of}
 use Rattle.blk_deps.specs.Facts as facts
 use Rattle.blk_deps.specs.Facts.{Facts, overwrites_after}
-use Rattle.blk_deps.specs.declared.fact.Fact.TheVariants.{Overwrites}
 use Rattle.blk_deps.specs.declared.step.Read.{Read}
 use Rattle.blk_deps.specs.declared.step.Put.{Put}
 use Rattle.blk_frame.specs.World.{Placed, ArePlaced, is_register_byte, IsWritable, AreWritable}

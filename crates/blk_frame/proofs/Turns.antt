@@ -1,21 +1,20 @@
 -- A further turn of an instruction that only computes: the facts behind it hold behind the turn too.
-use Rattle.std.proofs.Common.{◌≡◌, inl, inr, ℕ, ◌-◌, ◌<◌, ◌==◌, ◌||◌, ◌&&◌, Bool, true, false, List, [], ◌∷◌, if◌then◌else◌, refl, sym, ap, subst, ◌∙◌}
-use Rattle.std.proofs.lemmas.Bool.{both_ways, eq-eqb, ne_eqb, eqb-true, and_parts, and_from, or_left, cases_eq, le-leb}
+use Rattle.std.proofs.Common.{◌≡◌, inl, inr, ℕ, ◌==◌, ◌&&◌, Bool, true, false, List, [], ◌∷◌, if◌then◌else◌, refl, sym, ap, subst, ◌∙◌}
+use Rattle.std.proofs.lemmas.Bool.{both_ways, eq-eqb, ne_eqb, eqb-true, and_parts, or_left, cases_eq}
 use Rattle.blk_deps.specs.Cells.{is_byte, is_hand, place_of, byte_of, hand_cell}
 use Rattle.blk_deps.specs.Facts as facts
 use Rattle.blk_deps.specs.Facts.{Facts, is_overwriting, overwrites_after, dropped}
 use Rattle.blk_deps.specs.declared.fact.Property.{Property}
 use Rattle.blk_deps.specs.declared.fact.Property.TheVariants.{NotEntryOf, ComesFrom, Pair}
-use Rattle.blk_deps.specs.declared.fact.Fact.{Fact}
-use Rattle.blk_deps.specs.declared.fact.Fact.TheVariants.{Here, Has, Overwrites, Unwritten, DirectionSet}
+use Rattle.blk_deps.specs.declared.fact.Fact.TheVariants.{Here, Has, Overwrites}
 use Rattle.blk_deps.specs.declared.step.Read.{Read}
 use Rattle.blk_deps.specs.declared.step.Put.{Put}
-use Rattle.blk_frame.specs.World.{Placed, ArePlaced, World, is_register_byte, in_register_byte, with_hands, after_put, after_puts, IsWritable, AreWritable}
-use Rattle.blk_frame.specs.Matches.{IsGood, IsIntact, IsShadowed, Matches}
+use Rattle.blk_frame.specs.World.{Placed, ArePlaced, World, with_hands, after_put, after_puts, IsWritable, AreWritable}
+use Rattle.blk_frame.specs.Matches.{IsGood, IsShadowed, Matches}
 use Rattle.blk_frame.proofs.Basics.{by_truth, byte_no_hand}
 use Rattle.blk_frame.proofs.Hands.{hand_is, hand_other}
 use Rattle.blk_frame.proofs.ReadSteps.{fewer_cells}
-use Rattle.blk_frame.proofs.PutSteps.{put_matches, overwrites_kept}
+use Rattle.blk_frame.proofs.PutSteps.{put_matches}
 
 -- ---- what a write of a computed value leaves
 

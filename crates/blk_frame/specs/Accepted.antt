@@ -1,5 +1,5 @@
 -- Facts of which no rule is broken. This project's own.
-use Rattle.std.specs.Prelude.{◌≡◌, ℕ, Bool, false, List, Some, slice_get}
+use Rattle.std.specs.Prelude.{◌≡◌, ℕ, false, List, Some, slice_get}
 use Rattle.asm_core.specs.Lists.{IsMember}
 use Rattle.asm_core.specs.declared.lines.Graph.{Graph}
 use Rattle.asm_core.specs.declared.sym.Sym.{Sym}

@@ -34,7 +34,7 @@ use Rattle.blk_deps.specs.Ways.{size_of, goes}
 use Rattle.blk_deps.specs.Findings.{Setting}
 use Rattle.blk_frame.specs.Accepted.{NoneBroken, EndsSound, PassesSound, IsShapeOf, facts_on}
 use Rattle.blk_deps.specs.Operands.{is_place}
-use Rattle.blk_deps.specs.Stack.{pushes}
+use Rattle.blk_deps.specs.Stack.{pushes, pops}
 use Rattle.blk_deps.specs.Start.{at_entry, TellsSharing}
 use Rattle.blk_deps.specs.declared.fact.Fact.TheVariants.{Overwrites}
 use Rattle.blk_frame.specs.World.{Placed, World}
@@ -75,6 +75,10 @@ pub record FactsHold : Type 0 where
       → TellsSharing i s shares → IsTableStep i s depth line x → Holds (placed_by i s x.at) entry facts x.before
       → Holds (placed_by i s x.at) entry (after_moves shares (line_reads i s depth line)
       (line_puts i s depth line) facts) x.after
+  -- a line that neither pushes nor pops leaves the stack as it was
+  pub stack : (i : Interface) (s : Shape) (depth : ℕ) (line : Sym) (x : Stand) → IsTableStep i s depth line x
+      → pushes line ≡ false → pops line ≡ false
+      → (x.after.scratch_top ≡ x.before.scratch_top) × (x.after.esp ≡ x.before.esp)
   -- what holds behind a repeated instruction holds behind each further turn of it
   pub turn : (i : Interface) (s : Shape) (shares : ℕ → ℕ → Bool) (depth : ℕ) (line : Sym) (x : Stand)
       (entry : Machine) (facts : Facts)

@@ -1,5 +1,5 @@
 -- Lines of a shape under a placement of it.
-use Rattle.std.specs.Prelude.{◌≡◌, ℕ, ◌+◌, ◌<◌, ◌≤◌, true, List, [], ◌∷◌, ◌++◌, map, Option, None, Some, slice_get, slice_index}
+use Rattle.std.specs.Prelude.{◌≡◌, ℕ, ◌+◌, ◌<◌, ◌≤◌, true, List, [], ◌∷◌, ◌++◌, map, Option, None, Some, slice_get}
 use Rattle.std.specs.List.{range_with_len}
 use Rattle.asm_core.specs.RowLaws.{Component, component_in, written_byte, IsPlaced, ChangesOnly, IsToldByOne, LeavesCopies}
 use Rattle.asm_core.specs.Rows.{entry_row}

@@ -1,6 +1,6 @@
 -- What the facts of a path say of a run along it. This project's own.
-use Rattle.std.specs.Prelude.{◌≡◌, ℕ, ◌<◌, Bool, true, false}
-use Rattle.blk_deps.specs.Cells.{is_byte, place_of, byte_of}
+use Rattle.std.specs.Prelude.{◌≡◌, ℕ, ◌<◌, true, false}
+use Rattle.blk_deps.specs.Cells.{place_of, byte_of}
 use Rattle.blk_deps.specs.Facts.{Facts}
 use Rattle.blk_deps.specs.declared.fact.Property.TheVariants.{NotEntryOf, Pair}
 use Rattle.blk_deps.specs.declared.fact.Fact.TheVariants.{Here, Has, Overwrites}

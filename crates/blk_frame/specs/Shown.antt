@@ -1,23 +1,20 @@
 -- Placements and states as the facts speak of them. This project's own.
-use Rattle.std.specs.Prelude.{◌≡◌, ℕ, ◌+◌, ◌*◌, ◌-◌, ◌/◌, ◌%◌, ◌^◌, ◌==◌, ◌<◌, ◌&&◌, ◌||◌, nat_lt, Bool, true, false, List, [], ◌∷◌, is_some, if◌then◌else◌, slice_index, slice_get, Option, None, Some}
+use Rattle.std.specs.Prelude.{◌≡◌, ℕ, ◌+◌, ◌-◌, ◌/◌, ◌%◌, ◌^◌, ◌==◌, ◌<◌, ◌&&◌, nat_lt, Bool, true, false, List, [], is_some, if◌then◌else◌, slice_index, Option, None, Some}
 use Rattle.std.specs.List.{list_any}
 use Rattle.asm_core.specs.Reg.{reg_number}
-use Rattle.asm_core.specs.Flag.{flag_number, flag_in}
-use Rattle.asm_core.specs.Function.{bit}
-use Rattle.asm_core.specs.Machine.{reg_in}
+use Rattle.asm_core.specs.Flag.{flag_number}
 use Rattle.asm_core.specs.Placement.{spot_of, address_registers}
 use Rattle.asm_core.specs.Reading.Placed.{placed_place}
 use Rattle.asm_core.specs.RowLaws as laws
 use Rattle.asm_core.specs.RowLaws.{Component, component_in}
 use Rattle.asm_core.specs.declared.reg.Reg.{Reg}
-use Rattle.asm_core.specs.declared.flag.Flag.{Flag}
 use Rattle.asm_core.specs.declared.sym.Place.{Place}
 use Rattle.asm_core.specs.declared.shape.Shape.{Shape}
 use Rattle.asm_core.specs.declared.interface.Interface.{Interface}
 use Rattle.asm_core.specs.declared.placement.Spot.{Spot}
 use Rattle.asm_core.specs.declared.placement.Placement.{Placement}
 use Rattle.asm_core.specs.declared.machine.Machine.{Machine}
-use Rattle.blk_deps.specs.Cells.{place_at, flag_cell, word_cell, place_of, byte_of}
+use Rattle.blk_deps.specs.Cells.{place_at, flag_cell, place_of, byte_of}
 use Rattle.blk_deps.specs.Operands.{is_place}
 use Rattle.blk_frame.specs.World.{Placed, World, is_register_byte}
 

@@ -1,7 +1,7 @@
 -- What a run has in its cells. Places, registers and cells are numbers here, so that nothing depends on what a
 -- placement or a state
 -- is made of. This project's own.
-use Rattle.std.specs.Prelude.{◌≡◌, ℕ, ◌-◌, ◌==◌, ◌&&◌, not, Bool, true, false, List, [], ◌∷◌, if◌then◌else◌, Some, slice_get}
+use Rattle.std.specs.Prelude.{◌≡◌, ℕ, ◌-◌, ◌==◌, ◌&&◌, Bool, true, false, List, [], ◌∷◌, if◌then◌else◌, Some, slice_get}
 use Rattle.blk_deps.specs.Cells.{is_byte, is_hand, place_of, byte_of, hand_cell}
 use Rattle.blk_deps.specs.declared.step.Read.{Read}
 use Rattle.blk_deps.specs.declared.step.Put.{Put}
