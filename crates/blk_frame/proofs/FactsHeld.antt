@@ -1,5 +1,5 @@
 -- What the facts of a path say holds.
-use Rattle.std.proofs.Common.{◌≡◌, inl, inr, ℕ, ◌-◌, ◌<◌, nat_lt, Bool, true, List, [], ◌∷◌, Option, None, Some, slice_get, refl, sym, ap, subst, ◌∙◌}
+use Rattle.std.proofs.Common.{◌≡◌, inl, inr, ℕ, ◌-◌, ◌<◌, nat_lt, Bool, true, List, [], ◌∷◌, Option, None, Some, slice_get, slice_index, refl, sym, ap, subst, ◌∙◌}
 use Rattle.std.proofs.lemmas.Bool.{lt-ltb}
 use Rattle.asm_core.specs.Lists.{IsMember}
 use Rattle.asm_core.specs.Reg.{reg_number}
@@ -23,6 +23,8 @@ use Rattle.blk_deps.specs.declared.step.Read.{Read}
 use Rattle.blk_deps.specs.declared.step.Put.{Put}
 use Rattle.blk_deps.specs.Line.{line_reads, line_puts}
 use Rattle.blk_deps.specs.Start.{TellsSharing}
+use Rattle.blk_deps.specs.Findings.{Setting, IsSetting, moved_by}
+use Rattle.blk_frame.specs.Accepted.{facts_on}
 use Rattle.blk_frame.specs.World.{ArePlaced}
 use Rattle.blk_frame.specs.Shown.{placed_by, world_of}
 use Rattle.blk_frame.specs.Lines.{IsStepOfLine}
@@ -138,6 +140,28 @@ module _ (table : ObeysTable) (i : Interface) (s : Shape) (shares : ℕ → ℕ 
     tops = holds.tops;
   }
 
+-- ---- along a path
+
+module _ (table : ObeysTable) (x : Setting) (path : List ℕ) (n : ℕ) (line : Sym) (stand : Stand) (entry : Machine)
+    (setting : IsSetting x) (at : slice_get x.graph.insts n ≡ Some line)
+    (step : IsTableStep x.interface x.shape (slice_index x.depths n) line stand) where
+  abbrev HoldsBy : Option Sym → Machine → Type 0
+  HoldsBy o m = Holds (placed_by x.interface x.shape stand.at) entry (moved_by x n o (facts_on x path)) m
+
+  along_path : Holds (placed_by x.interface x.shape stand.at) entry (facts_on x path) stand.before
+      → Holds (placed_by x.interface x.shape stand.at) entry (facts_on x (n ∷ path)) stand.after
+  along_path holds = subst (λ o. HoldsBy o stand.after) (sym at)
+      (holds_behind table x.interface x.shape x.shares (slice_index x.depths n) line stand entry
+      (facts_on x path) setting.shares step holds)
+
+  again_path : (line.repeat ≡ Repeat.No → ⊥)
+      → Holds (placed_by x.interface x.shape stand.at) entry (facts_on x (n ∷ path)) stand.before
+      → Holds (placed_by x.interface x.shape stand.at) entry (facts_on x (n ∷ path)) stand.after
+  again_path more holds = subst (λ o. HoldsBy o stand.after) (sym at)
+      (holds_again table x.interface x.shape x.shares (slice_index x.depths n) line stand entry
+      (facts_on x path) setting.shares step more
+      (subst (λ o. HoldsBy o stand.before) at holds))
+
 pub facts_held : ObeysTable → FactsHold
 facts_held table = record {
   start = λ i live s p m. record {
@@ -162,6 +186,10 @@ facts_held table = record {
       facts sound interface a k accessed is there;
   passes = λ x graphs number is none. pass_sound x graphs number is none;
   ends = λ x graphs number is none. end_sound x graphs number is none;
+  along = λ x path n line stand entry setting at step holds. along_path table x path n line stand entry setting at
+      step holds;
+  again = λ x path n line stand entry setting at step more holds. again_path table x path n line stand entry setting
+      at step more holds;
 }
 
 pub table_facts_held : FactsHold

@@ -1,6 +1,6 @@
 -- What the facts of a path say of a run along it: at the entry, behind each step, and of registers, flags and
 -- addresses wherever it stands.
-use Rattle.std.specs.Prelude.{◌≡◌, ℕ, ◌+◌, ◌<◌, ◌≤◌, ◌^◌, Bool, true, false, All, List, Some, slice_get, slice_index}
+use Rattle.std.specs.Prelude.{◌≡◌, ℕ, ◌+◌, ◌<◌, ◌≤◌, ◌^◌, Bool, true, false, All, List, ◌∷◌, Some, slice_get, slice_index}
 use Rattle.asm_core.specs.Reg.{reg_number}
 use Rattle.asm_core.specs.Flag.{flag_number, flag_in}
 use Rattle.asm_core.specs.Machine.{reg_in}
@@ -31,7 +31,7 @@ use Rattle.dataflow.specs.Paths.{IsPathTo}
 use Rattle.blk_deps.specs.Line.{line_reads, line_puts, accesses_in}
 use Rattle.blk_deps.specs.Rules.{is_kept}
 use Rattle.blk_deps.specs.Ways.{size_of, goes}
-use Rattle.blk_deps.specs.Findings.{Setting}
+use Rattle.blk_deps.specs.Findings.{Setting, IsSetting}
 use Rattle.blk_frame.specs.Accepted.{NoneBroken, EndsSound, PassesSound, IsShapeOf, facts_on}
 use Rattle.blk_deps.specs.Operands.{is_place}
 use Rattle.blk_deps.specs.Stack.{pushes, pops}
@@ -123,3 +123,14 @@ pub record FactsHold : Type 0 where
       → NoneBroken x.interface x.live graphs
       → (path : List ℕ) → IsPathTo (size_of x.graph) (goes x.graph) path (size_of x.graph)
       → EndsSound x.interface x.shape (facts_on x path)
+  -- so the facts of a run's own path hold of it: behind a step of the instruction at its end, and behind each
+  -- further turn of that
+  pub along : (x : Setting) (path : List ℕ) (n : ℕ) (line : Sym) (stand : Stand) (entry : Machine) → IsSetting x
+      → slice_get x.graph.insts n ≡ Some line → IsTableStep x.interface x.shape (slice_index x.depths n) line stand
+      → Holds (placed_by x.interface x.shape stand.at) entry (facts_on x path) stand.before
+      → Holds (placed_by x.interface x.shape stand.at) entry (facts_on x (n ∷ path)) stand.after
+  pub again : (x : Setting) (path : List ℕ) (n : ℕ) (line : Sym) (stand : Stand) (entry : Machine) → IsSetting x
+      → slice_get x.graph.insts n ≡ Some line → IsTableStep x.interface x.shape (slice_index x.depths n) line stand
+      → (line.repeat ≡ Repeat.No → ⊥)
+      → Holds (placed_by x.interface x.shape stand.at) entry (facts_on x (n ∷ path)) stand.before
+      → Holds (placed_by x.interface x.shape stand.at) entry (facts_on x (n ∷ path)) stand.after
