@@ -1,0 +1,6 @@
+pub mod World
+pub mod Matches
+pub mod Shown
+pub mod Lines
+pub mod Laws
+pub mod Accepted
