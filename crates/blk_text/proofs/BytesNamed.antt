@@ -1,27 +1,23 @@
 -- Where no instruction breaks U2, each byte that one of them names has a name under every allowed placement.
-use Rattle.std.proofs.Common.{◌≡◌, ◌⊎◌, inl, inr, ℕ, zero, suc, ◌+◌, ◌-◌, ◌==◌, ◌&&◌, ◌||◌, ◌<◌, ◌≤◌, nat_lt, not, All, List, [], ◌∷◌, ◌++◌, length, Bool, true, false, cond, IsTrue, is_some, is_none, Option, None, Some, slice_get, refl, ap, sym, subst, ◌∙◌, eq-eqb, le-ltb, arith}
+use Rattle.std.proofs.Common.{◌≡◌, inl, ℕ, suc, ◌+◌, ◌==◌, ◌&&◌, ◌||◌, ◌<◌, nat_lt, not, All, List, [], ◌∷◌, ◌++◌, length, Bool, true, false, cond, is_some, is_none, Option, None, Some, slice_get, refl, ap, sym, subst, ◌∙◌, eq-eqb, le-ltb, arith}
 use Rattle.std.proofs.lemmas.Bool.{and_from, eqb-true}
 use Rattle.std.proofs.lemmas.Option.{slice_get_within}
 use Rattle.std.proofs.lemmas.List.Elements.{All-head, All-tail}
 use Rattle.std.specs.List.{list_all, list_any}
 use Rattle.asm_core.specs.Lists.{IsMember}
-use Rattle.asm_core.specs.Reg.{reg_number}
 use Rattle.asm_core.specs.Roomy.{ShareRegister, place_registers}
 use Rattle.asm_core.specs.Placement.{spot_of, tie_root, value_registers, address_registers, IsAllowed}
-use Rattle.asm_core.specs.Company.{is_pair_alone, fixed_place, register_places, kind_places, places_by, places_of}
+use Rattle.asm_core.specs.Company.{fixed_place, register_places, places_by, places_of}
 use Rattle.asm_core.specs.Reading.Facts.{fixed_register, only_register, alternative_at, is_byte_slice}
 use Rattle.asm_core.proofs.ReadingLaws.CutWhole.{first_true, both_true}
-use Rattle.asm_core.proofs.ReadingLaws.NamesPrinted.{lacks_bytes, spot_lacks_bytes, is_part_lost}
+use Rattle.asm_core.proofs.ReadingLaws.NamesPrinted.{lacks_bytes, spot_lacks_bytes}
 use Rattle.asm_core.proofs.ReadingLaws.PlacesThere.{is_free, has_own_place, is_arg_own, IsFit}
 use Rattle.asm_core.proofs.ReadingLaws.TextThere.{is_arg_named, are_bytes_named}
 use Rattle.asm_core.specs.declared.reg.Reg.{Reg}
 use Rattle.asm_core.specs.declared.reg.Slice.{Slice}
 use Rattle.asm_core.specs.declared.sym.Place.{Place}
-use Rattle.asm_core.specs.declared.sym.Disp.{Disp}
 use Rattle.asm_core.specs.declared.sym.Arg.{Arg}
 use Rattle.asm_core.specs.declared.sym.Sym.{Sym}
-use Rattle.asm_core.specs.declared.finding.Cell.{Cell}
-use Rattle.asm_core.specs.declared.placement.Form.{Form}
 use Rattle.asm_core.specs.declared.placement.Spot.{Spot}
 use Rattle.asm_core.specs.declared.placement.Placement.{Placement}
 use Rattle.asm_core.specs.declared.shape.Kind.{Kind}
@@ -33,8 +29,8 @@ use Rattle.asm_core.specs.declared.interface.Interface.{Interface}
 use Rattle.asm_core.specs.declared.lines.Graph.{Graph}
 use Rattle.blk_deps.specs.Cells.{place_at}
 use Rattle.blk_deps.specs.Operands.{in_register, is_own, is_root, has_own_register, is_operand_place, is_place}
-use Rattle.blk_deps.specs.Rules.{is_byte_name, asks_byte_of, breaks_u2}
-use Rattle.blk_deps.specs.Start.{MayShare, TellsSharing}
+use Rattle.blk_deps.specs.Rules.{is_byte_name, asks_byte_of}
+use Rattle.blk_deps.specs.Start.{TellsSharing}
 use Rattle.blk_text.specs.Text.{KeepsU2}
 
 or_first : (a b : Bool) → a ≡ true → (a || b) ≡ true
