@@ -53,8 +53,8 @@ module _ (i : Interface) (s : Shape) (k : ℕ) where
 
       by : (b c : Bool) → is_none (cond b (cond c (Some Reg.Eax) None) (only_register alt.regs)) ≡ true
           → cond (b && c) Places.Pair
-          (Places.One (fixed_place k (cond b (cond c (Some Reg.Eax) None) (only_register alt.regs)))) ≡ Places.One
-          (Place.Operand k)
+          (Places.One (fixed_place k (cond b (cond c (Some Reg.Eax) None) (only_register alt.regs))))
+          ≡ Places.One (Place.Operand k)
       by true true h = cc
       by true false h = refl
       by false c h = other (only_register alt.regs) h
@@ -68,28 +68,32 @@ module _ (i : Interface) (s : Shape) (k : ℕ) where
   free_parts (Some o) (Some alt) (Some Kind.Memory) h = cc
   free_parts (Some o) (Some alt) (Some Kind.Number) h = cc
 
+  abbrev at_root : ℕ → Places
+  at_root r = places_by r (alternative_at (slice_get i.operands r) s.alternative) (slice_get s.kinds r)
+
+  own_parts : has_own_place i s k ≡ true
+      → (is_some (slice_get i.operands k) ≡ true)
+      × ((at_root k ≡ Places.One (Place.Operand k)) × (slice_get s.kinds k ≡ Some Kind.Register))
+  own_parts own =
+      free_parts (slice_get i.operands k) (alternative_at (slice_get i.operands k) s.alternative) (slice_get s.kinds k)
+      (both_true (tie_root i s k == k) _ own)
+
   -- the operand is a place of the shape
   own_place : has_own_place i s k ≡ true → is_operand_place i s k ≡ true
   unfolding places_of
   own_place own =
       let root = eqb-true (tie_root i s k) k (first_true (tie_root i s k == k) _ own) in
-      let parts = free_parts (slice_get i.operands k) (alternative_at (slice_get i.operands k) s.alternative)
-      (slice_get s.kinds k) (both_true (tie_root i s k == k) _ own) in
-      let here : is_own k (places_by k (alternative_at (slice_get i.operands k) s.alternative) (slice_get s.kinds k))
-      ≡ true = subst (λ q. is_own k q ≡ true) (sym parts.1.0) (eq-eqb k k refl) in
-      let at : is_own k (places_of i s k) ≡ true = subst
-      (λ r. is_own k (places_by r (alternative_at (slice_get i.operands r) s.alternative) (slice_get s.kinds r)) ≡
-      true) (sym root) here in
+      let parts = own_parts own in
+      let here : is_own k (at_root k) ≡ true = subst (λ q. is_own k q ≡ true) (sym parts.1.0) (eq-eqb k k refl) in
+      let at : is_own k (places_of i s k) ≡ true = subst (λ r. is_own k (at_root r) ≡ true) (sym root) here in
       let kind : in_register s k ≡ true = rw parts.1.1 refl in
-      let register = and_from (in_register s k && is_root i s k) (is_own k (places_of i s k))
-      (and_from (in_register s k) (is_root i s k) kind (eq-eqb (tie_root i s k) k root)) at in
+      let rooted = and_from (in_register s k) (is_root i s k) kind (eq-eqb (tie_root i s k) k root) in
+      let register = and_from (in_register s k && is_root i s k) (is_own k (places_of i s k)) rooted at in
       and_from (is_some (slice_get i.operands k)) _ parts.0 (or_first (has_own_register i s k) _ register)
 
   number_below : has_own_place i s k ≡ true → k < length i.operands
   number_below own =
-      by (slice_get i.operands k) refl
-      (free_parts (slice_get i.operands k) (alternative_at (slice_get i.operands k) s.alternative)
-      (slice_get s.kinds k) (both_true (tie_root i s k == k) _ own)).0
+      by (slice_get i.operands k) refl (own_parts own).0
     where
       by : (o : Option OperandIface) → slice_get i.operands k ≡ o → is_some o ≡ true → k < length i.operands
       by None e h = cc
@@ -107,8 +111,8 @@ module _ (i : Interface) (s : Shape) (p : Placement) (allowed : IsAllowed i s p)
   shares_it r n spot below at =
       let first : is_place i s (7 + k) ≡ true = or_second (nat_lt (7 + k) 7) _
       (subst (λ m. is_operand_place i s m ≡ true) (omega arith) (own_place i s k own)) in
-      let here : IsMember r (place_registers p (Place.Operand k)) = subst
-      (λ x. IsMember r (value_registers x ++ address_registers x)) (sym spot) (inl refl) in
+      let here : IsMember r (place_registers p (Place.Operand k)) =
+      subst (λ x. IsMember r (value_registers x ++ address_registers x)) (sym spot) (inl refl) in
       let there : IsMember r (place_registers p (Place.Reg r)) = inl refl in
       let shared : ShareRegister i s (place_at (7 + k)) (place_at n) p = record {
         allowed = allowed;
@@ -153,8 +157,8 @@ module _ (i : Interface) (s : Shape) (p : Placement) where
   -- none of these operands names a byte that isn't there
   abbrev AsksNone : List Arg → Type 0
   AsksNone args =
-      (k : ℕ) → has_own_place i s k ≡ true → list_any (asks_byte_of k) args ≡ true → spot_lacks_bytes (spot_of p k) ≡
-      true → ⊥
+      (k : ℕ) → has_own_place i s k ≡ true → list_any (asks_byte_of k) args ≡ true → spot_lacks_bytes (spot_of p k)
+      ≡ true → ⊥
 
   part_named : (k : ℕ) (slice : Slice) (args : List Arg) → AsksNone (Arg.Register (Place.Operand k) slice ∷ args)
       → has_own_place i s k ≡ true

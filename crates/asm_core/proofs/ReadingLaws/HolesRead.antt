@@ -288,8 +288,8 @@ module _ (is_lost : Leaf → Bool) (never : MayBeLost is_lost) where
         by None f = cc
         by (Some ys) f =
             let same : os ≡ o ∷ ys = cc in
-            let all : (is_held_in is_lost o && list_all (is_held_in is_lost) ys) ≡ true = ap
-            (list_all (is_held_in is_lost)) (sym same) ∙ own in
+            let all : (is_held_in is_lost o && list_all (is_held_in is_lost) ys) ≡ true =
+            ap (list_all (is_held_in is_lost)) (sym same) ∙ own in
             ((o, (refl, first_true (is_held_in is_lost o) _ all)), (ys, (refl, both_true (is_held_in is_lost o) _ all)))
 
     operands_held : (left : ℕ) (xs : List Atom)
@@ -307,8 +307,8 @@ module _ (is_lost : Leaf → Bool) (never : MayBeLost is_lost) where
       where
         by : (left : ℕ) (xs : List Atom) → are_held is_lost (take (comma_outside false (codes_of xs)) xs) ≡ true
             → (let rest = drop (comma_outside false (codes_of xs) + 1) xs in AreHeldThere
-            (all_some (operands_in goal left rest (comma_outside false (codes_of rest)))) → are_held is_lost rest ≡
-            true)
+            (all_some (operands_in goal left rest (comma_outside false (codes_of rest)))) → are_held is_lost rest
+            ≡ true)
             → (b : Bool) → nat_lt (comma_outside false (codes_of xs)) (length xs) ≡ b
             → (let rest = drop (comma_outside false (codes_of xs) + 1) xs in AreHeldThere
             (all_some (cond b (operands_in goal left rest (comma_outside false (codes_of rest))) []))) → are_held

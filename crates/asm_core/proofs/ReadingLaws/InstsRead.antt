@@ -92,8 +92,8 @@ module _ (rows : List NameRow) (goal : List ℕ → Option (Option ℕ)) (before
 
   -- the table of names has them behind that name
   pub line_choice : line_read (line_of rows goal before place xs) ≡ Some l
-      → (c : Choice) ×
-      (choice_of rows (take (name_len (map atom_code xs)) (map atom_code xs)) (map class_of l.operands) ≡ Some c)
+      → (c : Choice)
+      × (choice_of rows (take (name_len (map atom_code xs)) (map atom_code xs)) (map class_of l.operands) ≡ Some c)
   line_choice e = operands_choice rows before name_in place l behind_name (read_behind e)
 
 -- an instruction is made of the line that was read

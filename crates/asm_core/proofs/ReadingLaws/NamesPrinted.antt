@@ -108,8 +108,8 @@ only_named n q e some = by (n == 1) (n == 2) (n == 4) (n == 8) (n == 16) (n == 3
     by : (a b c d e f g : Bool) → (n == 16) ≡ e → (n == 32) ≡ f → (n == 64) ≡ g
         → cond a (Some Eax)
         (cond b (Some Ebx)
-        (cond c (Some Ecx) (cond d (Some Edx) (cond e (Some Esi) (cond f (Some Edi) (cond g (Some Ebp) None)))))) ≡
-        Some q
+        (cond c (Some Ecx) (cond d (Some Edx) (cond e (Some Esi) (cond f (Some Edi) (cond g (Some Ebp) None))))))
+        ≡ Some q
         → lacks_bytes q ≡ false
     by true b c d e f g h16 h32 h64 h = let same : Eax ≡ q = cc in rw (← same) refl
     by false true c d e f g h16 h32 h64 h = let same : Ebx ≡ q = cc in rw (← same) refl
@@ -175,8 +175,8 @@ module _ (p : Placement) (fact : OperandFacts) (named : IsFixedNamed fact) (r : 
 
   part_kept : (slice : Slice) (byte has : Bool) → is_byte_slice slice ≡ byte → fact.has_byte_names ≡ has
       → is_leaf_lost p
-      (cond (byte && not has) Leaf.Nameless (Leaf.Register (place_of fact) slice (is_fixed_cl fact.fixed slice))) ≡
-      false → (is_byte_slice slice && lacks_bytes r) ≡ false
+      (cond (byte && not has) Leaf.Nameless (Leaf.Register (place_of fact) slice (is_fixed_cl fact.fixed slice)))
+      ≡ false → (is_byte_slice slice && lacks_bytes r) ≡ false
   part_kept slice false has eb eh lost = rw eb refl
   part_kept slice true false eb eh lost = cc
   part_kept slice true true eb eh lost = fixed_part slice fact.fixed refl is eh lost

@@ -1,6 +1,5 @@
--- Under a placement by letters each instruction of the lines under a shape is placed. A place of operands in it is one
--- that an operand
--- has of its own.
+-- Under a placement by letters each instruction of the lines under a shape is placed, and an operand's place in it is
+-- one that the operand has of its own.
 use Rattle.std.proofs.Common.{◌≡◌, ℕ, zero, suc, ℤ, not, cond, is_none, eq-eqb, ◌==◌, ◌+◌, ◌&&◌, All, List, [], ◌∷◌, length, map, drop, Bool, true, false, Option, None, Some, Ok, refl, ap, subst, ◌∙◌, slice_get, arith}
 use Rattle.std.proofs.lemmas.Bool.{and_from}
 use Rattle.std.proofs.lemmas.List.{length-map}
@@ -55,8 +54,8 @@ is_free o alt kind = false
 -- operand k is tied to none, and in a register, of which its letters allow several
 abbrev pub has_own_place : Interface → Shape → ℕ → Bool
 has_own_place i s k =
-    (tie_root i s k == k) && is_free (slice_get i.operands k) (alternative_at (slice_get i.operands k) s.alternative)
-    (slice_get s.kinds k)
+    (tie_root i s k == k)
+    && is_free (slice_get i.operands k) (alternative_at (slice_get i.operands k) s.alternative) (slice_get s.kinds k)
 
 abbrev is_register : Spot → Bool
 is_register (Spot.Register r) = true
@@ -72,7 +71,7 @@ is_place_fit i s p (Place.Operand k) = is_register (spot_of p k) && has_own_plac
 register_fit : (i : Interface) (s : Shape) (p : Placement) (r : Reg) → is_place_fit i s p (Place.Reg r) ≡ true
 register_fit i s p r = refl
 
--- the place that such an operand has is its own
+-- an operand in a register that its letters leave open has a place of its own
 abbrev IsOwn : Interface → Shape → OperandFacts → Type 0
 IsOwn i s fact = fact.kind ≡ Kind.Register → fact.fixed ≡ None → has_own_place i s fact.root ≡ true
 
@@ -82,8 +81,8 @@ module _ (i : Interface) (s : Shape) (is : IsInterface i) where
       → alt.tied ≡ None
       → kind ≡ Kind.Register → fixed_register alt ≡ None → has_own_place i s root ≡ true
   root_own root ro alt kind eo ea ek untied same none =
-      let found : slice_get ro.alts s.alternative ≡ Some alt = subst (λ o. alternative_at o s.alternative ≡ Some alt)
-      eo ea in
+      let found : slice_get ro.alts s.alternative ≡ Some alt =
+      subst (λ o. alternative_at o s.alternative ≡ Some alt) eo ea in
       let own : tie_root i s root ≡ root = root_is i s root ro (Some alt) eo found ∙ rw untied refl in
       let free : is_free (Some ro) (Some alt) (Some kind) ≡ true = rw (same, none) refl in
       and_from (tie_root i s root == root) _ (eq-eqb (tie_root i s root) root own) (rw (eo, found, ek) free)
@@ -104,12 +103,11 @@ module _ (i : Interface) (s : Shape) (is : IsInterface i) where
         size = o.size;
         known = ro.known;
         fixed = fixed_register alt;
-        has_byte_names =
-            allows_byte_names alt;
+        has_byte_names = allows_byte_names alt;
         root = root;
       }) ≡ fact = cc in
-      let found : alternative_at (slice_get i.operands root) s.alternative ≡ Some alt = ap
-      (λ x. alternative_at x s.alternative) eo ∙ ea in
+      let found : alternative_at (slice_get i.operands root) s.alternative ≡ Some alt =
+      ap (λ x. alternative_at x s.alternative) eo ∙ ea in
       subst (IsOwn i s) same
       (λ is_kind none. root_own root ro alt kind eo found ek (root_untied i s is k o there ro alt eo ea) is_kind none)
 

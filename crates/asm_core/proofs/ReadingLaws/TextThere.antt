@@ -76,8 +76,8 @@ module _ (p : Placement) where
       → are_bytes_named p inst ≡ true → are_atoms_held body ≡ true
   body_held rows labels n count place before body inst e named =
       let l = line_there count (line_of rows (goal_of labels n) before place body) inst e in
-      let args : list_all (is_arg_named p) (map (arg_of count) l.0.operands) ≡ true = subst
-      (λ (x : Sym). are_bytes_named p x ≡ true) (sym l.1.1) named in
+      let args : list_all (is_arg_named p) (map (arg_of count) l.0.operands) ≡ true =
+      subst (λ (x : Sym). are_bytes_named p x ≡ true) (sym l.1.1) named in
       line_read_held (is_leaf_lost p) (may_be_lost p) (goal_of labels n) (goal_codes labels n) rows before place body
       l.0 l.1.0 (operands_held count l.0.operands args)
 
@@ -124,8 +124,8 @@ module _ (i : Interface) (s : Shape) (is : IsInterface i) (p : Placement) (lette
 
     in_comment : (k : ℕ) (o : Option (List ℕ))
         → (text : List Sign) ×
-        (elim (hole_text true o) as (λ _. Result (List Sign) ℕ) [ None ↦ Err k | Some t ↦ Ok (with_origin (suc k) t) ] ≡
-        Ok text)
+        (elim (hole_text true o) as (λ _. Result (List Sign) ℕ) [ None ↦ Err k | Some t ↦ Ok (with_origin (suc k) t) ]
+        ≡ Ok text)
     in_comment k None = (_, refl)
     in_comment k (Some t) = (_, refl)
 
