@@ -1,27 +1,23 @@
 -- Where no instruction breaks U2, each byte that one of them names has a name under every allowed placement.
-use Rattle.std.proofs.Common.{◌≡◌, ◌⊎◌, inl, inr, ℕ, zero, suc, ◌+◌, ◌-◌, ◌==◌, ◌&&◌, ◌||◌, ◌<◌, ◌≤◌, nat_lt, not, All, List, [], ◌∷◌, ◌++◌, length, Bool, true, false, cond, IsTrue, is_some, is_none, Option, None, Some, slice_get, refl, ap, sym, subst, ◌∙◌, eq-eqb, le-ltb, arith}
+use Rattle.std.proofs.Common.{◌≡◌, inl, ℕ, suc, ◌+◌, ◌==◌, ◌&&◌, ◌||◌, ◌<◌, nat_lt, not, All, List, [], ◌∷◌, ◌++◌, length, Bool, true, false, cond, is_some, is_none, Option, None, Some, slice_get, refl, ap, sym, subst, ◌∙◌, eq-eqb, le-ltb, arith}
 use Rattle.std.proofs.lemmas.Bool.{and_from, eqb-true}
 use Rattle.std.proofs.lemmas.Option.{slice_get_within}
 use Rattle.std.proofs.lemmas.List.Elements.{All-head, All-tail}
 use Rattle.std.specs.List.{list_all, list_any}
 use Rattle.asm_core.specs.Lists.{IsMember}
-use Rattle.asm_core.specs.Reg.{reg_number}
 use Rattle.asm_core.specs.Roomy.{ShareRegister, place_registers}
 use Rattle.asm_core.specs.Placement.{spot_of, tie_root, value_registers, address_registers, IsAllowed}
-use Rattle.asm_core.specs.Company.{is_pair_alone, fixed_place, register_places, kind_places, places_by, places_of}
+use Rattle.asm_core.specs.Company.{fixed_place, register_places, places_by, places_of}
 use Rattle.asm_core.specs.Reading.Facts.{fixed_register, only_register, alternative_at, is_byte_slice}
 use Rattle.asm_core.proofs.ReadingLaws.CutWhole.{first_true, both_true}
-use Rattle.asm_core.proofs.ReadingLaws.NamesPrinted.{lacks_bytes, spot_lacks_bytes, is_part_lost}
+use Rattle.asm_core.proofs.ReadingLaws.NamesPrinted.{lacks_bytes, spot_lacks_bytes}
 use Rattle.asm_core.proofs.ReadingLaws.PlacesThere.{is_free, has_own_place, is_arg_own, IsFit}
 use Rattle.asm_core.proofs.ReadingLaws.TextThere.{is_arg_named, are_bytes_named}
 use Rattle.asm_core.specs.declared.reg.Reg.{Reg}
 use Rattle.asm_core.specs.declared.reg.Slice.{Slice}
 use Rattle.asm_core.specs.declared.sym.Place.{Place}
-use Rattle.asm_core.specs.declared.sym.Disp.{Disp}
 use Rattle.asm_core.specs.declared.sym.Arg.{Arg}
 use Rattle.asm_core.specs.declared.sym.Sym.{Sym}
-use Rattle.asm_core.specs.declared.finding.Cell.{Cell}
-use Rattle.asm_core.specs.declared.placement.Form.{Form}
 use Rattle.asm_core.specs.declared.placement.Spot.{Spot}
 use Rattle.asm_core.specs.declared.placement.Placement.{Placement}
 use Rattle.asm_core.specs.declared.shape.Kind.{Kind}
@@ -33,8 +29,8 @@ use Rattle.asm_core.specs.declared.interface.Interface.{Interface}
 use Rattle.asm_core.specs.declared.lines.Graph.{Graph}
 use Rattle.blk_deps.specs.Cells.{place_at}
 use Rattle.blk_deps.specs.Operands.{in_register, is_own, is_root, has_own_register, is_operand_place, is_place}
-use Rattle.blk_deps.specs.Rules.{is_byte_name, asks_byte_of, breaks_u2}
-use Rattle.blk_deps.specs.Start.{MayShare, TellsSharing}
+use Rattle.blk_deps.specs.Rules.{is_byte_name, asks_byte_of}
+use Rattle.blk_deps.specs.Start.{TellsSharing}
 use Rattle.blk_text.specs.Text.{KeepsU2}
 
 or_first : (a b : Bool) → a ≡ true → (a || b) ≡ true
@@ -57,8 +53,8 @@ module _ (i : Interface) (s : Shape) (k : ℕ) where
 
       by : (b c : Bool) → is_none (cond b (cond c (Some Reg.Eax) None) (only_register alt.regs)) ≡ true
           → cond (b && c) Places.Pair
-          (Places.One (fixed_place k (cond b (cond c (Some Reg.Eax) None) (only_register alt.regs)))) ≡ Places.One
-          (Place.Operand k)
+          (Places.One (fixed_place k (cond b (cond c (Some Reg.Eax) None) (only_register alt.regs))))
+          ≡ Places.One (Place.Operand k)
       by true true h = cc
       by true false h = refl
       by false c h = other (only_register alt.regs) h
@@ -72,28 +68,32 @@ module _ (i : Interface) (s : Shape) (k : ℕ) where
   free_parts (Some o) (Some alt) (Some Kind.Memory) h = cc
   free_parts (Some o) (Some alt) (Some Kind.Number) h = cc
 
+  abbrev at_root : ℕ → Places
+  at_root r = places_by r (alternative_at (slice_get i.operands r) s.alternative) (slice_get s.kinds r)
+
+  own_parts : has_own_place i s k ≡ true
+      → (is_some (slice_get i.operands k) ≡ true)
+      × ((at_root k ≡ Places.One (Place.Operand k)) × (slice_get s.kinds k ≡ Some Kind.Register))
+  own_parts own =
+      free_parts (slice_get i.operands k) (alternative_at (slice_get i.operands k) s.alternative) (slice_get s.kinds k)
+      (both_true (tie_root i s k == k) _ own)
+
   -- the operand is a place of the shape
   own_place : has_own_place i s k ≡ true → is_operand_place i s k ≡ true
   unfolding places_of
   own_place own =
       let root = eqb-true (tie_root i s k) k (first_true (tie_root i s k == k) _ own) in
-      let parts = free_parts (slice_get i.operands k) (alternative_at (slice_get i.operands k) s.alternative)
-      (slice_get s.kinds k) (both_true (tie_root i s k == k) _ own) in
-      let here : is_own k (places_by k (alternative_at (slice_get i.operands k) s.alternative) (slice_get s.kinds k))
-      ≡ true = subst (λ q. is_own k q ≡ true) (sym parts.1.0) (eq-eqb k k refl) in
-      let at : is_own k (places_of i s k) ≡ true = subst
-      (λ r. is_own k (places_by r (alternative_at (slice_get i.operands r) s.alternative) (slice_get s.kinds r)) ≡
-      true) (sym root) here in
+      let parts = own_parts own in
+      let here : is_own k (at_root k) ≡ true = subst (λ q. is_own k q ≡ true) (sym parts.1.0) (eq-eqb k k refl) in
+      let at : is_own k (places_of i s k) ≡ true = subst (λ r. is_own k (at_root r) ≡ true) (sym root) here in
       let kind : in_register s k ≡ true = rw parts.1.1 refl in
-      let register = and_from (in_register s k && is_root i s k) (is_own k (places_of i s k))
-      (and_from (in_register s k) (is_root i s k) kind (eq-eqb (tie_root i s k) k root)) at in
+      let rooted = and_from (in_register s k) (is_root i s k) kind (eq-eqb (tie_root i s k) k root) in
+      let register = and_from (in_register s k && is_root i s k) (is_own k (places_of i s k)) rooted at in
       and_from (is_some (slice_get i.operands k)) _ parts.0 (or_first (has_own_register i s k) _ register)
 
   number_below : has_own_place i s k ≡ true → k < length i.operands
   number_below own =
-      by (slice_get i.operands k) refl
-      (free_parts (slice_get i.operands k) (alternative_at (slice_get i.operands k) s.alternative)
-      (slice_get s.kinds k) (both_true (tie_root i s k == k) _ own)).0
+      by (slice_get i.operands k) refl (own_parts own).0
     where
       by : (o : Option OperandIface) → slice_get i.operands k ≡ o → is_some o ≡ true → k < length i.operands
       by None e h = cc
@@ -111,8 +111,8 @@ module _ (i : Interface) (s : Shape) (p : Placement) (allowed : IsAllowed i s p)
   shares_it r n spot below at =
       let first : is_place i s (7 + k) ≡ true = or_second (nat_lt (7 + k) 7) _
       (subst (λ m. is_operand_place i s m ≡ true) (omega arith) (own_place i s k own)) in
-      let here : IsMember r (place_registers p (Place.Operand k)) = subst
-      (λ x. IsMember r (value_registers x ++ address_registers x)) (sym spot) (inl refl) in
+      let here : IsMember r (place_registers p (Place.Operand k)) =
+      subst (λ x. IsMember r (value_registers x ++ address_registers x)) (sym spot) (inl refl) in
       let there : IsMember r (place_registers p (Place.Reg r)) = inl refl in
       let shared : ShareRegister i s (place_at (7 + k)) (place_at n) p = record {
         allowed = allowed;
@@ -157,8 +157,8 @@ module _ (i : Interface) (s : Shape) (p : Placement) where
   -- none of these operands names a byte that isn't there
   abbrev AsksNone : List Arg → Type 0
   AsksNone args =
-      (k : ℕ) → has_own_place i s k ≡ true → list_any (asks_byte_of k) args ≡ true → spot_lacks_bytes (spot_of p k) ≡
-      true → ⊥
+      (k : ℕ) → has_own_place i s k ≡ true → list_any (asks_byte_of k) args ≡ true → spot_lacks_bytes (spot_of p k)
+      ≡ true → ⊥
 
   part_named : (k : ℕ) (slice : Slice) (args : List Arg) → AsksNone (Arg.Register (Place.Operand k) slice ∷ args)
       → has_own_place i s k ≡ true

@@ -13,7 +13,7 @@ use Rattle.asm_core.specs.declared.lines.JumpTarget.{JumpTarget}
 use Rattle.asm_core.specs.declared.lines.Lines.{Lines}
 use Rattle.asm_core.specs.declared.lines.Graph.{Graph}
 use Rattle.asm_core.specs.declared.placement.Placement.{Placement}
-use Rattle.blk_flow.specs.Graph.{goal_in, onto_graph, graph_with, graph_from, graph_of}
+use Rattle.blk_flow.specs.Graph.{goal_in, graph_with, graph_from, graph_of}
 use Rattle.blk_flow.specs.declared.flow_end.FlowEnd.{FlowEnd}
 use Rattle.blk_text.specs.Text.{placed_code}
 

@@ -5,7 +5,7 @@ use Rattle.asm_core.specs.declared.finding.Rule.{Rule}
 use Rattle.asm_core.specs.declared.lines.Graph.{Graph}
 use Rattle.asm_core.specs.declared.shape.Shape.{Shape}
 use Rattle.asm_core.specs.declared.interface.Interface.{Interface}
-use Rattle.blk_deps.specs.Findings.{Setting, IsSetting, BreaksAt, IsBroken, alone}
+use Rattle.blk_deps.specs.Findings.{IsSetting, BreaksAt, IsBroken, alone}
 use Rattle.blk_deps.specs.Ways.{line_number}
 use Rattle.blk_text.specs.Text.{KeepsU2}
 
