@@ -1,5 +1,4 @@
 pub mod EndLemmas
-pub mod RecoveryLemmas
 pub mod ParameterLemmas
 pub mod DeclaringLemmas
 pub mod PlaceLemmas
