@@ -1,3 +1,4 @@
 mod Counts
 mod Session
 mod Written
+mod Writing

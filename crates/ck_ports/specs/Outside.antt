@@ -1,5 +1,5 @@
 -- The files outside the program, as a `Files` tells them, and what its calls do to them.
-use Rattle.std.specs.Prelude.{◌≡◌, ◌≢◌, ℕ, ◌+◌, ◌≤◌, List, [], ◌++◌, length, take, drop, Bool, Option, Some, IsSome, unwrap_or}
+use Rattle.std.specs.Prelude.{◌≡◌, ◌≢◌, ◌⊎◌, ℕ, ◌+◌, ◌≤◌, List, [], ◌++◌, length, take, drop, Bool, Option, Some, IsSome, unwrap_or}
 use Rattle.ck_ports.specs.Faults.{Faults}
 use Rattle.ck_ports.specs.declared.files.Mode.{Mode}
 
@@ -56,6 +56,14 @@ Appends bytes old new = new.file old.open_name ≡ Some (content_of old ++ bytes
 -- the open file ends with a prefix of these bytes after what it held
 abbrev pub AppendsPrefix : List ℕ → Outside → Outside → Type 0
 AppendsPrefix bytes old new = (n : ℕ) × (n ≤ length bytes) × Appends (take n bytes) old new
+
+-- the named file holds a prefix of these bytes
+abbrev pub HoldsPrefix : List ℕ → List ℕ → Outside → Type 0
+HoldsPrefix name bytes o = (n : ℕ) × (n ≤ length bytes) × (o.file name ≡ Some (take n bytes))
+
+-- of the bytes that it was to hold, or it holds what it held
+abbrev pub IsCutOff : List ℕ → List ℕ → Outside → Outside → Type 0
+IsCutOff name bytes old new = (new.file name ≡ old.file name) ⊎ HoldsPrefix name bytes new
 
 -- nothing has changed
 pub record SameOutside (old new : Outside) : Type 0 where

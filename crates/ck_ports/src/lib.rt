@@ -23,7 +23,7 @@ pub use mem_sink::MemSink;
 pub use port_end::PortEnd;
 pub use read_end::ReadEnd;
 pub use sink::Sink;
-pub use transfer::{MAX_FILE_BYTES, read_all, write_all};
+pub use transfer::{MAX_FILE_BYTES, read_all, write_all, write_file};
 
 #[cfg(test)]
 mod tests;

@@ -81,6 +81,25 @@ fn writes_a_file_unless_a_call_fails(rt: HostRuntime) -> Result<(), Fail> {
     Ok(())
 }
 
+// Call 1 opens the file, call 2 writes and call 3 closes it.
+#[test]
+fn a_file_is_written_whole_unless_a_call_fails(rt: HostRuntime) -> Result<(), Fail> {
+    let alloc = rt.alloc();
+    for (fail, held) in [(0, "abcdefg"), (1, "old"), (2, ""), (3, "abcdefg")] {
+        let mut files = MemFiles::new(alloc, &[fail])?;
+        files.put("out.c", b"old")?;
+        let end = write_file(&mut files, "out.c", b"abcdefg").err();
+        let wanted = if fail == 0 {
+            None
+        } else {
+            Some(PortEnd::Failed)
+        };
+        assert_eq!(rt; end, wanted, "call {fail}");
+        assert_eq!(rt; files.get("out.c").ok_or("gone")?, held.as_bytes());
+    }
+    Ok(())
+}
+
 // A sink that takes three bytes at a time, and refuses its third call.
 #[derive(Drop)]
 struct Dribble {

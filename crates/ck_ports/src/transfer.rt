@@ -1,7 +1,7 @@
-ghost use Rattle.std.specs.Prelude.{◌≡◌, ◌<◌, ◌≤◌, Some, length, IsTrue, IfOk, OnOk, OnErr, IsErrOf, IsSomeAnd};
-ghost use Rattle.ck_ports.specs.declared.files.Mode.TheVariants.{Closed, Reading};
+ghost use Rattle.std.specs.Prelude.{[], ◌≡◌, ◌<◌, ◌≤◌, Some, length, IsTrue, IfOk, OnOk, OnErr, IsErrOf, IsSomeAnd};
+ghost use Rattle.ck_ports.specs.declared.files.Mode.TheVariants.{Closed, Reading, Writing};
 ghost use Rattle.ck_ports.specs.Faults.{Rose, CountsAt, RisesAt};
-ghost use Rattle.ck_ports.specs.Outside.{Outside, SameFiles, rest_of};
+ghost use Rattle.ck_ports.specs.Outside.{Outside, SameFiles, SameOtherFiles, HoldsPrefix, IsCutOff, rest_of};
 ghost use Rattle.ck_ports.specs.Written.{Written, Writes, WritesPrefix};
 
 use crate::{Files, PortEnd, ReadEnd, Sink};
@@ -82,6 +82,55 @@ pub fn write_all<K: Sink>(out: &mut K, bytes: &[u8]) -> Result<(), PortEnd>
     let mut done = 0;
     while done < bytes.len() {
         done += out.write(&bytes[done..])?;
+    }
+    Ok(())
+}
+
+/// Makes the file of this name hold the bytes. It is closed again after every answer; after an `Err` it holds a prefix of the bytes,
+/// or what it held.
+pub fn write_file<F: Files>(files: &mut F, name: &str, bytes: &[u8]) -> Result<(), PortEnd>
+    requires { (F.outside files.old).mode ≡ Closed }
+
+    ensures closed { (F.outside files.new).mode ≡ Closed }
+    ensures whole { OnOk result (IsTrue (F.outside files.old).tells → (F.outside files.new).file name.now ≡ Some bytes.now) }
+    ensures err { OnErr result (IsTrue (F.outside files.old).tells → IsCutOff name.now bytes.now (F.outside files.old) (F.outside files.new)) }
+    ensures failed { IsErrOf result PortEnd.Failed
+        → RisesAt (F.outside files.old).tells name.now (F.outside files.old).writing (F.outside files.new).writing }
+
+    ensures others { IsTrue (F.outside files.old).tells → SameOtherFiles name.now (F.outside files.old) (F.outside files.new) }
+    ensures writing { CountsAt (F.outside files.old).tells name.now (F.outside files.old).writing (F.outside files.new).writing }
+    ensures reading { (F.outside files.new).reading ≡ (F.outside files.old).reading }
+    ensures tells { (F.outside files.new).tells ≡ (F.outside files.old).tells }
+{
+    files.open_write(name)?;
+    let written = write_to_end(files, bytes);
+    let closed = files.close();
+    written?;
+    closed
+}
+
+// Writes the bytes to the open file, which is empty and stays open.
+fn write_to_end<F: Files>(files: &mut F, bytes: &[u8]) -> Result<(), PortEnd>
+    requires mode { (F.outside files.old).mode ≡ Writing }
+    requires empty { IsTrue (F.outside files.old).tells → (F.outside files.old).file (F.outside files.old).open_name ≡ Some [] }
+
+    ensures mode { (F.outside files.new).mode ≡ Writing }
+    ensures whole { OnOk result (IsTrue (F.outside files.old).tells
+        → (F.outside files.new).file (F.outside files.old).open_name ≡ Some bytes.now) }
+    ensures err { OnErr result (IsTrue (F.outside files.old).tells
+        → HoldsPrefix (F.outside files.old).open_name bytes.now (F.outside files.new)) }
+    ensures failed { IsErrOf result PortEnd.Failed
+        → RisesAt (F.outside files.old).tells (F.outside files.old).open_name (F.outside files.old).writing (F.outside files.new).writing }
+
+    ensures others { SameOtherFiles (F.outside files.old).open_name (F.outside files.old) (F.outside files.new) }
+    ensures writing { CountsAt (F.outside files.old).tells (F.outside files.old).open_name (F.outside files.old).writing (F.outside files.new).writing }
+    ensures open_name { (F.outside files.new).open_name ≡ (F.outside files.old).open_name }
+    ensures reading { (F.outside files.new).reading ≡ (F.outside files.old).reading }
+    ensures tells { (F.outside files.new).tells ≡ (F.outside files.old).tells }
+{
+    let mut done = 0;
+    while done < bytes.len() {
+        done += files.write(&bytes[done..])?;
     }
     Ok(())
 }
