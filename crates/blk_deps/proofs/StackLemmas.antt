@@ -172,13 +172,13 @@ small_by : (before : Depth → Bool) (d : ℕ) → (before (depth_of d) ≡ true
 small_by before d small None has = small has
 small_by before d small (Some line) has = small_behind before d small (pushes line) (pops line) has
 
-depth_small : (g : Graph) (path : List ℕ) (d : ℕ) → facts_along no_words (depths_after g) path (depth_of d) ≡ true
+pub depth_small : (g : Graph) (path : List ℕ) (d : ℕ) → facts_along no_words (depths_after g) path (depth_of d) ≡ true
     → d ≤ 16
 depth_small g [] d has = grind (arith, nat_tests)
 depth_small g (i ∷ path) d has = small_by (facts_along no_words (depths_after g) path) d (depth_small g path d)
     (slice_get g.insts i) has
 
-path_within : (g : Graph) → IsGraph g → (path : List ℕ) (n : ℕ) → IsPathTo (size_of g) (goes g) path n → n ≤ size_of g
+pub path_within : (g : Graph) → IsGraph g → (path : List ℕ) (n : ℕ) → IsPathTo (size_of g) (goes g) path n → n ≤ size_of g
 path_within g graph [] n is = omega (arith, is)
 path_within g graph (i ∷ path) n is =
     let w = goes_within g graph i is.1 in elim is.2 [ inl e ↦ omega (arith, e, w.0) | inr e ↦ omega (arith, e, w.1) ]
