@@ -41,7 +41,7 @@ use Rattle.asm_core.specs.declared.reg.Slice.{Slice}
 use Rattle.asm_core.specs.declared.sym.Disp.{Disp}
 use Rattle.asm_core.specs.declared.sym.Sym.{Sym}
 use Rattle.x86_table.specs.TableLaws.{IsPlain, HasArg, HasSite, HasTarget, HasInput, HasOperands}
-use Rattle.x86_table.proofs.NamesCheck.{has_bytes, class_has, widths, classes, place_has, site_has, target_has, input_has, op_has, conditions, operations_of, may_be, repeats_of, operand_count, is_plain, repeat_has, width_has, row_has, names_have}
+use Rattle.x86_table.proofs.NamesCheck.{has_bytes, class_has, widths, classes, place_has, site_has, target_has, input_has, op_has, conditions, operations_of, may_be, repeats_of, operand_count, is_plain, are_level, keeps_stack, row_fits, repeat_has, width_has, row_has, names_have}
 
 -- ---- lists and tests
 
@@ -338,12 +338,24 @@ plain_there count l n counted e = by l.repeat refl e
     by Repeat.Repe h e = inr (none_left l.operands count (counted ∙ eqb-true n 0 e))
     by Repeat.Repne h e = inr (none_left l.operands count (counted ∙ eqb-true n 0 e))
 
--- a line of the table's names has the operands of its row, and is plain
-abbrev pub FitsTable : Sym → Type 0
-FitsTable s = HasOperands s (line_row s) × IsPlain s
+-- A line of the table's names has the operands of its row, and is plain. Repeated it doesn't push or pop.
+pub record FitsTable (s : Sym) : Type 0 where
+  pub operands : HasOperands s (line_row s)
+  pub plain : IsPlain s
+  pub level : (s.repeat ≡ Repeat.No → ⊥) → are_level (line_row s) ≡ true
+
+level_there : (repeat : Repeat) (row : List MicroOp) → keeps_stack repeat row ≡ true → (repeat ≡ Repeat.No → ⊥) → are_level row ≡ true
+level_there Repeat.No row e other = absurd (other refl)
+level_there Repeat.Rep row e other = e
+level_there Repeat.Repe row e other = e
+level_there Repeat.Repne row e other = e
 
 line_fits : (count : ℕ) (l : Line) (c : Choice) → IsChosen (map class_of l.operands) c → l.op ≡ c.op → l.width ≡ c.width → IsMember l.repeat (repeats_of c.row) → FitsTable (sym_of count l)
-line_fits count l c chosen op width member = (subst (HasOperands (sym_of count l)) is_row has, plain_there count l (operand_count c.row.slots) number both.0)
+line_fits count l c chosen op width member = record {
+  operands = subst (HasOperands (sym_of count l)) is_row has;
+  plain = plain_there count l (operand_count c.row.slots) number both.0;
+  level = λ other. subst (λ row. are_level row ≡ true) is_row (level_there l.repeat made parts.0 other);
+}
   where
     stand : all_stand l.width c.row.slots (map class_of l.operands) ≡ true
     stand = subst (λ w. all_stand w c.row.slots (map class_of l.operands) ≡ true) (sym width) chosen.stand
@@ -354,11 +366,18 @@ line_fits count l c chosen op width member = (subst (HasOperands (sym_of count l
     sized : list_all (λ x. list_all (repeat_has c.row l.width x) (repeats_of c.row)) (operations_of c.row.operation) ≡ true
     sized = implied (may_be c.row l.width) _ (all_at (width_has c.row) l.width widths row (width_there l.width)) (subst (λ w. may_be c.row w ≡ true) (sym width) chosen.width)
 
-    both : (is_plain l.repeat (operand_count c.row.slots) ≡ true) × (list_all (op_has l.width c.row.slots) (repeated l.repeat (row_of l.op l.width (operand_count c.row.slots))) ≡ true)
+    made : List MicroOp
+    made = repeated l.repeat (row_of l.op l.width (operand_count c.row.slots))
+
+    both : (is_plain l.repeat (operand_count c.row.slots) ≡ true) × (row_fits l.width c.row.slots l.repeat (repeated l.repeat (row_of l.op l.width (operand_count c.row.slots))) ≡ true)
     both =
         and_parts _ _
         (all_at (repeat_has c.row l.width l.op) l.repeat (repeats_of c.row)
         (all_at (λ x. list_all (repeat_has c.row l.width x) (repeats_of c.row)) l.op (operations_of c.row.operation) sized (subst (λ x. IsMember x (operations_of c.row.operation)) (sym op) chosen.operation)) member)
+
+    parts : (keeps_stack l.repeat (repeated l.repeat (row_of l.op l.width (operand_count c.row.slots))) ≡ true)
+        × (list_all (op_has l.width c.row.slots) (repeated l.repeat (row_of l.op l.width (operand_count c.row.slots))) ≡ true)
+    parts = and_parts _ _ both.1
 
     number : length l.operands ≡ operand_count c.row.slots
     number = counted count l.width c.row.slots l.operands stand
@@ -369,7 +388,7 @@ line_fits count l c chosen op width member = (subst (HasOperands (sym_of count l
     has : HasOperands (sym_of count l) (repeated l.repeat (row_of l.op l.width (operand_count c.row.slots)))
     has =
         operands_there (sym_of count l) c.row.slots (λ bytes k e. place_there count l.width bytes k c.row.slots l.operands stand e)
-        (repeated l.repeat (row_of l.op l.width (operand_count c.row.slots))) both.1
+        (repeated l.repeat (row_of l.op l.width (operand_count c.row.slots))) parts.1
 
 read_with : (count : ℕ) (c : Choice) (os : List LineOperand) (place : ℕ) (before : List Prefix) (p : Option Prefixed) (l : Line) → IsChosen (map class_of os) c → prefixes_fit c.row (map class_of os) before ≡ p
     → line_with c os place p ≡ Reading.Read l → FitsTable (sym_of count l)
