@@ -3,6 +3,7 @@ pub mod ListLemmas
 pub mod OperandLemmas
 pub mod RangeLemmas
 pub mod ReadLemmas
+pub mod RegisterLemmas
 pub mod StatedLemmas
 pub mod SymbolLemmas
 pub mod WellFormedLemmas

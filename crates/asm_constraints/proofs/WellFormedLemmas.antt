@@ -25,6 +25,7 @@ use Rattle.asm_core.specs.declared.constraint.ConstrainedOperand.{ConstrainedOpe
 use Rattle.asm_constraints.proofs.ListLemmas.{Has, slice_get_there, any-true, any_part-false, find-Some, find-None, slice_get-replicate, slice_get_mapped, false_left, false_right}
 use Rattle.asm_constraints.proofs.RangeLemmas.{numbers_of-kept}
 use Rattle.asm_constraints.proofs.ReadLemmas.{IsRead, TiesBelow}
+use Rattle.asm_constraints.proofs.RegisterLemmas.{registers_of-below}
 
 -- ---- what the rule K2 rules out
 
@@ -294,6 +295,15 @@ module _ (strict : Bool) (clobbers : List Quoted) (n : ℕ) (ws : List Constrain
         known = λ m k. kept.known_in m (sym p.known ∙ k);
       }
 
+  -- ---- registers
+
+  registers_of_placed : (w : ConstrainedOperand) (o : OperandIface) (a : ℕ) (alt : AltIface) → IsPlaced w o a alt → alt.regs.0 < 128
+  unfolding alternative_of
+  registers_of_placed w o a alt p = subst (λ (x : AltIface). x.regs.0 < 128) (sym p.is) (registers_of-below p.alternative)
+
+  registers_of_flag : (o : OperandIface) (alt : AltIface) → IsFlag o alt → alt.regs.0 < 128
+  registers_of_flag o alt f = subst (λ (x : AltIface). x.regs.0 < 128) (sym f.is) (omega arith)
+
   -- ---- outputs that ties name
 
   made_there : (k : ℕ) (w : ConstrainedOperand) → slice_get ws k ≡ Some w → slice_get made.operands k ≡ Some (operand_of (alternative_count ws) (sizes_of ws) w)
@@ -345,5 +355,9 @@ module _ (strict : Bool) (clobbers : List Quoted) (n : ℕ) (ws : List Constrain
     numbers = λ k a o alt range h e. elim (case_here k a o alt (comes_from k o h.is_operand) h.is_alternative) [
       | inr f ↦ number_of_flag o alt range f e
       | inl p ↦ number_of_placed (comes_from k o h.is_operand).from o a alt range p e
+    ];
+    registers = λ k a o alt h. elim (case_here k a o alt (comes_from k o h.is_operand) h.is_alternative) [
+      | inr f ↦ registers_of_flag o alt f
+      | inl p ↦ registers_of_placed (comes_from k o h.is_operand).from o a alt p
     ];
   }

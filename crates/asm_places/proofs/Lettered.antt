@@ -9,7 +9,7 @@ use Rattle.asm_core.specs.Reg.{IsIn}
 use Rattle.asm_core.specs.Lists.{IsMember}
 use Rattle.asm_core.specs.Shape.{letter_kinds, shapes_of}
 use Rattle.asm_core.specs.Placement.{spot_of, HasOperand, tie_root}
-use Rattle.asm_core.specs.WellFormed.{IsInterface, HasAlternative}
+use Rattle.asm_core.specs.WellFormed.{IsInterface}
 use Rattle.asm_core.specs.Reading.UnderShape.{LettersFit, IsLettered}
 use Rattle.asm_core.proofs.ShapeLaws.{IsShape, is_shape}
 use Rattle.asm_core.specs.declared.reg.Reg.{Reg}
@@ -87,11 +87,7 @@ register_fits o alt small member = by alt.pair refl
     by true e = rw e refl
     by false e = first_in alt.regs small (some (alt.regs.0 == 0) e refl (register_letter (alt.pair || not (alt.regs.0 == 0)) alt.mem _ member))
 
--- no set has more than the seven registers
-pub record HasRegisters (i : Interface) : Type 0 where
-  pub each : (k a : ℕ) (o : OperandIface) (alt : AltIface) → HasAlternative i k a o alt → alt.regs.0 < 128
-
-module _ (i : Interface) (s : Shape) (is : IsSound i s) (shape : IsShape i s) (registers : HasRegisters i) where
+module _ (i : Interface) (s : Shape) (is : IsSound i s) (shape : IsShape i s) (interface : IsInterface i) where
   abbrev spot_with : Option OperandIface → Option AltIface → Option Kind → Spot
   spot_with (Some o) (Some alt) (Some kind) = letter_spot alt o.known kind
   spot_with o alt kind = Spot.Number (pos 0)
@@ -127,7 +123,7 @@ module _ (i : Interface) (s : Shape) (is : IsSound i s) (shape : IsShape i s) (r
 
   fits_there : (k : ℕ) (o : OperandIface) (alt : AltIface) (kind : Kind) → HasOperand i s k o alt kind → alt.tied ≡ None → LettersFit o alt kind (letter_spot alt o.known kind)
   fits_there k o alt Register has untied =
-      register_fits o alt (registers.each k s.alternative o alt (record { is_operand = has.is_operand; is_alternative = has.is_alternative })) (member k o alt Register has untied)
+      register_fits o alt (interface.registers k s.alternative o alt (record { is_operand = has.is_operand; is_alternative = has.is_alternative })) (member k o alt Register has untied)
   fits_there k o alt Memory has untied = record { low = omega (arith, ints); high = omega (arith, ints); scale = λ x e. cc }
   fits_there k o alt Number has untied = let n = is.numbers k o alt has untied in number_fits o alt n.range n.is_range n.number o.known refl
 
@@ -141,5 +137,5 @@ module _ (i : Interface) (s : Shape) (is : IsSound i s) (shape : IsShape i s) (r
   is_lettered = record { count = refl; fits = lettered_fits; ties = lettered_ties }
 
 -- a shape of an interface has a placement by letters
-pub lettered_there : (i : Interface) (s : Shape) → IsInterface i → HasRegisters i → IsMember s (shapes_of i) → (p : Placement) × IsLettered i s p
-lettered_there i s interface registers m = let is = sound i s interface m in let shape = is_shape i s interface m in (lettered i s is shape registers, is_lettered i s is shape registers)
+pub lettered_there : (i : Interface) (s : Shape) → IsInterface i → IsMember s (shapes_of i) → (p : Placement) × IsLettered i s p
+lettered_there i s interface m = let is = sound i s interface m in let shape = is_shape i s interface m in (lettered i s is shape interface, is_lettered i s is shape interface)

@@ -3,6 +3,7 @@ use Rattle.asm_core.specs.Reading.Cut.{instruction_count}
 use Rattle.asm_core.specs.Reading.Names.{names}
 use Rattle.asm_core.proofs.ReadingLaws.Law.{pieces_read_whole}
 use Rattle.asm_core.proofs.ReadingLaws.ReadExactly.{pieces_read_exactly}
+use Rattle.asm_places.proofs.Lettered.{lettered_there}
 use Rattle.att_reader.specs.Raws.{raws_as}
 use Rattle.att_reader.proofs.ReaderLemmas.{raws_same, too_many, not_many, template_below}
 use Rattle.att_reader.proofs.reader.read_lines.Goals as goal
@@ -32,4 +33,5 @@ returns-clause-law c =
 
 pub returns-clause-exactly : goal.returns-clause-exactly
 returns-clause-exactly c =
-    pieces_read_exactly names c.args.interface.now c.args.shape.now c.args.pieces.now c.in_ok-lines.field-0 c.requires.interface c.requires.pieces (returns-clause-is c)
+    pieces_read_exactly names c.args.interface.now c.args.shape.now c.args.pieces.now c.in_ok-lines.field-0 c.requires.interface
+    (lettered_there c.args.interface.now c.args.shape.now c.requires.interface) c.requires.pieces (returns-clause-is c)
