@@ -52,6 +52,11 @@ pub record IsClean (s : Statement) (i : Interface) : Type 0 where
   pub level : AreFindings (IsStackBroken graphs) stack_violations []
   pub kept : AreFindings (IsBroken i live graphs) (violations_of i) []
 
+-- an accepted statement is clean, and the proof is of it
+pub record IsCleared (s : Statement) (i : Interface) (p : Proven) : Type 0 where
+  pub clean : IsClean s i
+  pub proof : IsProof s i p
+
 module _ (s : Statement) (i : Interface) (p : Proven) where
   -- a verdict is no other than what was found
   found_none : (Otherwise : Verdict → Type 0) (found : List Finding) → IsFoundVerdict Otherwise found (Verdict.Ok p) → (found ≡ []) × Otherwise (Verdict.Ok p)
@@ -61,55 +66,54 @@ module _ (s : Statement) (i : Interface) (p : Proven) where
   module _ (live : List Shape) (lines : List Lines) (few : length (shapes_of i) ≤ 64) (room : AnyHasRoom i (shapes_of i)) (are_live : AreLive i (shapes_of i) live)
     (readings : readings_under i (pieces_in s.body) live ≡ Ok lines) (read : first_unread lines ≡ None) (alike : shape_findings i live lines ≡ [])
   where
-    clean_paths : (graphs : List Graph) → graphs_of lines ≡ Ok graphs → AreFindings (IsStackBroken graphs) stack_violations [] → IsPathsVerdict s i live graphs (Verdict.Ok p) → IsClean s i
+    clean_paths : (graphs : List Graph) → graphs_of lines ≡ Ok graphs → AreFindings (IsStackBroken graphs) stack_violations [] → IsPathsVerdict s i live graphs (Verdict.Ok p) → IsCleared s i p
     clean_paths graphs blocks level v =
         let none = found_none (IsAccepted s i) v.found v.verdict in
         record {
-          live = live;
-          lines = lines;
-          graphs = graphs;
-          few = few;
-          room = room;
-          are_live = are_live;
-          readings = readings;
-          read = read;
-          alike = alike;
-          blocks = blocks;
-          level = level;
-          kept = subst (AreFindings (IsBroken i live graphs) (violations_of i)) none.0 v.findings;
+          clean = record {
+            live = live;
+            lines = lines;
+            graphs = graphs;
+            few = few;
+            room = room;
+            are_live = are_live;
+            readings = readings;
+            read = read;
+            alike = alike;
+            blocks = blocks;
+            level = level;
+            kept = subst (AreFindings (IsBroken i live graphs) (violations_of i)) none.0 v.findings;
+          };
+          proof = none.1;
         }
 
-    clean_stack : (graphs : List Graph) → graphs_of lines ≡ Ok graphs → IsStackVerdict s i live graphs (Verdict.Ok p) → IsClean s i
+    clean_stack : (graphs : List Graph) → graphs_of lines ≡ Ok graphs → IsStackVerdict s i live graphs (Verdict.Ok p) → IsCleared s i p
     clean_stack graphs blocks v =
         let none = found_none (IsPathsVerdict s i live graphs) v.found v.verdict in
         clean_paths graphs blocks (subst (AreFindings (IsStackBroken graphs) stack_violations) none.0 v.findings) none.1
 
-    clean_blocks : (r : Result (List Graph) FlowEnd) → graphs_of lines ≡ r → IsBlocksVerdict s i live r (Verdict.Ok p) → IsClean s i
+    clean_blocks : (r : Result (List Graph) FlowEnd) → graphs_of lines ≡ r → IsBlocksVerdict s i live r (Verdict.Ok p) → IsCleared s i p
     clean_blocks (Err end) blocks v = absurd v
     clean_blocks (Ok graphs) blocks v = clean_stack graphs blocks v
 
   module _ (live : List Shape) (few : length (shapes_of i) ≤ 64) (room : AnyHasRoom i (shapes_of i)) (are_live : AreLive i (shapes_of i) live) where
-    clean_read : (lines : List Lines) (unread : Option Mark) → readings_under i (pieces_in s.body) live ≡ Ok lines → first_unread lines ≡ unread → IsReadVerdict s i live lines unread (Verdict.Ok p) → IsClean s i
+    clean_read : (lines : List Lines) (unread : Option Mark) → readings_under i (pieces_in s.body) live ≡ Ok lines → first_unread lines ≡ unread → IsReadVerdict s i live lines unread (Verdict.Ok p) → IsCleared s i p
     clean_read lines (Some mark) readings read v = cc
     clean_read lines None readings read v =
         let none = found_none (IsBlocksVerdict s i live (graphs_of lines)) (shape_findings i live lines) v in
         clean_blocks live lines few room are_live readings read none.0 (graphs_of lines) refl none.1
 
-    clean_readings : (r : Result (List Lines) LinesEnd) → readings_under i (pieces_in s.body) live ≡ r → IsReadingsVerdict s i live r (Verdict.Ok p) → IsClean s i
+    clean_readings : (r : Result (List Lines) LinesEnd) → readings_under i (pieces_in s.body) live ≡ r → IsReadingsVerdict s i live r (Verdict.Ok p) → IsCleared s i p
     clean_readings (Err end) readings v = cc
     clean_readings (Ok lines) readings v = clean_read lines (first_unread lines) readings refl v
 
-  clean_shapes : length (shapes_of i) ≤ 64 → IsShapesVerdict s i (shapes_of i) (Verdict.Ok p) → IsClean s i
+  clean_shapes : length (shapes_of i) ≤ 64 → IsShapesVerdict s i (shapes_of i) (Verdict.Ok p) → IsCleared s i p
   clean_shapes few (inl h) = let e = h.1 in cc
   clean_shapes few (inr h) = clean_readings h.1.live few h.0 h.1.are_live (readings_under i (pieces_in s.body) h.1.live) refl h.1.verdict
 
-  -- an accepted statement is clean
-  pub accepted_clean : IsVerdict s i (Verdict.Ok p) → IsClean s i
-  accepted_clean (inl h) = let e = h.1 in cc
-  accepted_clean (inr h) = clean_shapes h.0 h.1
-
-  proof_in_paths : (live : List Shape) (graphs : List Graph) → IsPathsVerdict s i live graphs (Verdict.Ok p) → IsProof s i p
-  proof_in_paths live graphs v = (found_none (IsAccepted s i) v.found v.verdict).1
+  pub accepted_cleared : IsVerdict s i (Verdict.Ok p) → IsCleared s i p
+  accepted_cleared (inl h) = let e = h.1 in cc
+  accepted_cleared (inr h) = clean_shapes h.0 h.1
 
 -- ---- one live shape
 

@@ -13,3 +13,4 @@ pub mod GoalLaws
 pub mod StageLaws
 pub mod ReadLaws
 pub mod GraphSteps
+pub mod FrameOfAccepted

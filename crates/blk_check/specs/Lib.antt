@@ -1,3 +1,4 @@
+pub mod Framed
 pub mod Judged
 pub mod Proven
 pub mod Readable

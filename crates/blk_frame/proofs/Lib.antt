@@ -28,3 +28,15 @@ pub mod PathRules
 pub mod Turns
 pub mod Repeats
 pub mod StackKept
+pub mod BlockRuns
+pub mod DepthsThere
+pub mod DirectionKept
+pub mod FlagFacts
+pub mod FlagsKept
+pub mod LayoutsKept
+pub mod MachineKept
+pub mod MemoryKept
+pub mod ReadLines
+pub mod RegistersKept
+pub mod StackMoves
+pub mod WayThere

@@ -1,6 +1,7 @@
 mod CommandLaws
 mod Examples
 mod FilesLaws
+mod FramedLaws
 mod JudgementLaws
 mod PageLaws
 mod PrintLaws

@@ -2,6 +2,7 @@ pub mod Answer
 pub mod Check
 pub mod CommandLine
 pub mod FilesAnswer
+pub mod Framed
 pub mod Judgement
 pub mod Lines
 pub mod Run

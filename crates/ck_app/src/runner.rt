@@ -4,6 +4,7 @@ ghost use Rattle.ck_ports.specs.declared.files.Mode.TheVariants.{Closed};
 ghost use Rattle.ck_ports.specs.Faults.{CountsAt};
 ghost use Rattle.ck_ports.specs.Outside.{SameFiles};
 ghost use Rattle.ck_app.specs.FilesAnswer.{IsAnswer};
+ghost use Rattle.ck_app.specs.Framed.{AcceptedAreFramed};
 ghost use Rattle.ck_app.specs.Words.{AreNames, command_of, names_read};
 ghost use Rattle.ck_app.specs.Run.{Tells, Prints, HasOneAnswer, HasCause, IsComplete, CountsReads, KeepsOutside, RunsFiles, RunsFile, IsPageOf, IsPrinted, is_page_status};
 
@@ -34,6 +35,9 @@ pub fn run<F: Files, K: Sink>(alloc: Global, words: &[String], files: &mut F, ou
 
     // There is one answer.
     ensures one { HasOneAnswer (IsAnswer (map string_bytes words.now) (F.outside files.old).file) }
+
+    // Each statement of the files that is accepted keeps the frame.
+    ensures framed { AcceptedAreFramed (F.outside files.old).file }
 
     // Each refusal has its cause, also where nothing is told.
     ensures cause { HasCause result (command_of (map string_bytes words.now))

@@ -1,4 +1,5 @@
 use Rattle.std.proofs.Common.{sym, subst, List, ℕ, map, string_bytes}
+use Rattle.ck_app.proofs.FramedLaws.{accepted_are_framed}
 use Rattle.ck_app.proofs.Unique.{one_command_answer}
 use Rattle.ck_app.specs.Run.{IsPrinted}
 use Rattle.ck_app.specs.Words.{command_of}
@@ -19,6 +20,12 @@ returns-in-Some-clause-one g c = one_command_answer (command_of (map string_byte
 
 pub returns-in-None-clause-one : goal.returns-in-None-clause-one
 returns-in-None-clause-one g c = one_command_answer (command_of (map string_bytes c.args.words.now)) (g.F.Files.outside c.args.files.now).file
+
+pub returns-in-Some-clause-framed : goal.returns-in-Some-clause-framed
+returns-in-Some-clause-framed g c = accepted_are_framed (g.F.Files.outside c.args.files.now).file
+
+pub returns-in-None-clause-framed : goal.returns-in-None-clause-framed
+returns-in-None-clause-framed g c = accepted_are_framed (g.F.Files.outside c.args.files.now).file
 
 pub returns-in-None-clause-complete : goal.returns-in-None-clause-complete
 returns-in-None-clause-complete g c = λ told.
