@@ -2,7 +2,7 @@
 use Rattle.std.proofs.Common.{◌≡◌, ℕ, ◌+◌, nat_lt, List, [], ◌∷◌, map, Bool, true, false, if◌then◌else◌, Option, None, Some, Ok, Err, All, refl, subst}
 use Rattle.std.proofs.lemmas.List.Elements.{All-nil, All-cons}
 use Rattle.asm_core.specs.Reading.Cut.{Raw, instruction_count}
-use Rattle.asm_core.specs.Reading.Line.{goal_of, line_of, place_from, readings_from, readings_of, inst_of_reading, lines_with, lines_under, template_raws}
+use Rattle.asm_core.specs.Reading.Line.{goal_of, line_of, place_from, readings_from, readings_of, sym_of, inst_of_reading, lines_with, lines_under, template_raws}
 use Rattle.asm_core.specs.Reading.Names.{names}
 use Rattle.asm_core.specs.declared.interface.Interface.{Interface}
 use Rattle.asm_core.specs.declared.lines.Lines.{Lines}
@@ -10,6 +10,7 @@ use Rattle.asm_core.specs.declared.lines.LinesEnd.{LinesEnd}
 use Rattle.asm_core.specs.declared.names.Prefix.{Prefix}
 use Rattle.asm_core.specs.declared.piece.Piece.{Piece}
 use Rattle.asm_core.specs.declared.reading.Atom.{Atom}
+use Rattle.asm_core.specs.declared.reading.Line.{Line}
 use Rattle.asm_core.specs.declared.reading.Reading.{Reading}
 use Rattle.asm_core.specs.declared.shape.Shape.{Shape}
 use Rattle.asm_core.specs.declared.sym.Sym.{Sym}
