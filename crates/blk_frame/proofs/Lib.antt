@@ -28,3 +28,6 @@ pub mod PathRules
 pub mod Turns
 pub mod Repeats
 pub mod StackKept
+pub mod Stable
+pub mod RunInduction
+pub mod SettingsThere
