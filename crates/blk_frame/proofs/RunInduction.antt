@@ -1,5 +1,5 @@
 -- What each step of code that is no fault keeps, a run of the code keeps.
-use Rattle.std.proofs.Common.{◌≡◌, ℕ, List, Some, slice_get, slice_index}
+use Rattle.std.proofs.Common.{◌≡◌, ℕ, List, Some, slice_get, slice_index, refl}
 use Rattle.asm_core.specs.MicroOps.{Stepped, values_of, read_in}
 use Rattle.asm_core.specs.RowLaws.{HoldsAfter}
 use Rattle.asm_core.specs.Rows.{inst_row, row_step}

@@ -1,16 +1,21 @@
 -- Depths and sharing of a graph whose stack is sound can't be missing.
 use Rattle.std.proofs.Common.{◌≡◌, ◌↔◌, inl, inr, ◌⊎◌, ℕ, zero, suc, ◌+◌, ◌==◌, ◌<◌, ◌≤◌, List, [], ◌∷◌, ◌++◌, length, Bool, true, false, IsTrue, if◌then◌else◌, slice_index, refl, sym, ap, subst, ◌∙◌, arith}
 use Rattle.std.proofs.lemmas.Bool.{cases_lt, cases_eq, eq-eqb, ne_eqb}
+use Rattle.asm_core.specs.Frame.{IsFramed}
+use Rattle.asm_core.specs.Run.{Outcome}
 use Rattle.asm_core.specs.WellFormed.{IsInterface}
 use Rattle.asm_core.specs.declared.shape.Shape.{Shape}
 use Rattle.asm_core.specs.declared.interface.Interface.{Interface}
 use Rattle.asm_core.specs.declared.lines.Graph.{Graph}
+use Rattle.asm_core.specs.declared.placement.Placement.{Placement}
+use Rattle.asm_core.specs.declared.machine.Machine.{Machine}
 use Rattle.blk_deps.specs.Ways.{size_of, IsGraph}
 use Rattle.blk_deps.specs.Stack.{AreDepths}
 use Rattle.blk_deps.specs.StackTable.{IsDepthAt, IsSound}
 use Rattle.blk_deps.specs.Start.{MayShare, TellsSharing}
 use Rattle.blk_deps.proofs.StackLemmas.{are_depths, none_at, one_more}
 use Rattle.blk_frame.proofs.Places.{place_small}
+use Rattle.blk_frame.proofs.Stable.{framed_unless}
 
 -- ---- depths
 
@@ -24,7 +29,9 @@ AreBelow g n depths = (length depths ≡ n) × ((k : ℕ) → k < n → IsDepthA
 depths_below : (g : Graph) (n : ℕ) → ((depths : List ℕ) → AreBelow g n depths → ⊥) → ⊥
 depths_below g zero none = none [] (refl, none_at g)
 depths_below g (suc n) none = depths_below g n (λ depths so_far. depth_there g n (λ d own.
-    none (depths ++ d ∷ []) (one_more g depths (depths ++ d ∷ []) n d so_far own refl)))
+    let next : n + 1 ≡ suc n = omega arith in
+    none (depths ++ d ∷ []) (subst (λ k. AreBelow g k (depths ++ d ∷ [])) next
+    (one_more g depths (depths ++ d ∷ []) n d so_far own refl))))
 
 depths_there : (g : Graph) → IsGraph g → IsSound g → ((depths : List ℕ) → AreDepths g depths → ⊥) → ⊥
 depths_there g graph sound none = depths_below g (size_of g + 1) (λ depths all.
@@ -93,3 +100,11 @@ pub settings_there : (i : Interface) (s : Shape) (g : Graph) → IsInterface i �
     → ((depths : List ℕ) (shares : ℕ → ℕ → Bool) → AreDepths g depths → TellsSharing i s shares → ⊥) → ⊥
 settings_there i s g interface graph sound none = depths_there g graph sound (λ depths are.
     sharing_there i s interface (λ shares tells. none depths shares are tells))
+
+-- What is framed wherever depths and sharing are known is framed.
+pub framed_in_settings : (i : Interface) (s : Shape) (g : Graph) (p : Placement) (entry : Machine) (o : Outcome)
+    → IsInterface i → IsGraph g → IsSound g
+    → ((depths : List ℕ) (shares : ℕ → ℕ → Bool) → AreDepths g depths → TellsSharing i s shares → IsFramed i s p entry o)
+    → IsFramed i s p entry o
+framed_in_settings i s g p entry o interface graph sound each = framed_unless i s p entry o (λ none.
+    settings_there i s g interface graph sound (λ depths shares are tells. none (each depths shares are tells)))

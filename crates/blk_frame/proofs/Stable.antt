@@ -29,8 +29,13 @@ same_option None (Some k) unless = absurd (unless (λ e. cc))
 same_option (Some k) None unless = absurd (unless (λ e. cc))
 same_option (Some k) (Some j) unless = ap Some (same_number k j (implied (same_some k j) unless))
 
+abbrev layout : ℕ → ℕ → Bool → Option ℕ → Layout
+layout base size writable owner = record { base = base; size = size; writable = writable; owner = owner }
+
 layout_from : (x y : Layout) → x.base ≡ y.base → x.size ≡ y.size → x.writable ≡ y.writable → x.owner ≡ y.owner → x ≡ y
-layout_from x y base size writable owner = cc
+layout_from x y base size writable owner =
+    ap (λ b. layout b x.size x.writable x.owner) base ∙ ap (λ n. layout y.base n x.writable x.owner) size
+    ∙ ap (λ w. layout y.base y.size w x.owner) writable ∙ ap (layout y.base y.size y.writable) owner
 
 same_layout : (x y : Layout) → ((x ≡ y → ⊥) → ⊥) → x ≡ y
 same_layout x y unless = layout_from x y
