@@ -1,5 +1,5 @@
 -- Depths and sharing of a graph whose stack is sound can't be missing.
-use Rattle.std.proofs.Common.{◌≡◌, ◌↔◌, inl, inr, ◌⊎◌, ℕ, zero, suc, ◌+◌, ◌==◌, ◌<◌, ◌≤◌, List, [], ◌∷◌, ◌++◌, length, Bool, true, false, IsTrue, if◌then◌else◌, slice_index, refl, sym, ap, subst, ◌∙◌, arith}
+use Rattle.std.proofs.Common.{◌≡◌, ◌↔◌, inl, inr, ◌⊎◌, ℕ, zero, suc, ◌+◌, ◌==◌, ◌<◌, ◌≤◌, List, [], ◌∷◌, ◌++◌, length, Bool, true, false, IsTrue, if◌then◌else◌, slice_index, refl, sym, ap, subst, arith}
 use Rattle.std.proofs.lemmas.Bool.{cases_lt, cases_eq, eq-eqb, ne_eqb}
 use Rattle.asm_core.specs.Frame.{IsFramed}
 use Rattle.asm_core.specs.Run.{Outcome}
@@ -42,7 +42,7 @@ depths_there g graph sound none = depths_below g (size_of g + 1) (λ depths all.
 truth_there : (P : Type 0) → ((b : Bool) → (IsTrue b ↔ P) → ⊥) → ⊥
 truth_there P none = none false (λ wrong. cc, λ holds. absurd (none true (λ yes. holds, λ h. refl)))
 
--- Of each number below a size something can't be missing, and of the others it is known: then it can't be missing of all.
+-- Of each number below a size something can't be missing, and of the others it is known: so all of it can't be missing.
 module _ {A : Type 0} (P : ℕ → A → Type 0) (size : ℕ) (past : A) (is_past : (k : ℕ) → size ≤ k → P k past)
     (each : (k : ℕ) → ((a : A) → P k a → ⊥) → ⊥) where
   abbrev with_item : ℕ → A → (ℕ → A) → ℕ → A
@@ -104,7 +104,8 @@ settings_there i s g interface graph sound none = depths_there g graph sound (λ
 -- What is framed wherever depths and sharing are known is framed.
 pub framed_in_settings : (i : Interface) (s : Shape) (g : Graph) (p : Placement) (entry : Machine) (o : Outcome)
     → IsInterface i → IsGraph g → IsSound g
-    → ((depths : List ℕ) (shares : ℕ → ℕ → Bool) → AreDepths g depths → TellsSharing i s shares → IsFramed i s p entry o)
+    → ((depths : List ℕ) (shares : ℕ → ℕ → Bool) → AreDepths g depths → TellsSharing i s shares
+    → IsFramed i s p entry o)
     → IsFramed i s p entry o
 framed_in_settings i s g p entry o interface graph sound each = framed_unless i s p entry o (λ none.
     settings_there i s g interface graph sound (λ depths shares are tells. none (each depths shares are tells)))
