@@ -42,7 +42,7 @@ depths_there g graph sound none = depths_below g (size_of g + 1) (λ depths all.
 truth_there : (P : Type 0) → ((b : Bool) → (IsTrue b ↔ P) → ⊥) → ⊥
 truth_there P none = none false (λ wrong. cc, λ holds. absurd (none true (λ yes. holds, λ h. refl)))
 
--- Each number below a size can't lack an item, and past it the item is known: then a table of them all can't be lacking.
+-- No number below a size can lack an item, and past it the item is known: then a table of them all can't be lacking.
 module _ {A : Type 0} (P : ℕ → A → Type 0) (size : ℕ) (past : A) (is_past : (k : ℕ) → size ≤ k → P k past)
     (each : (k : ℕ) → ((a : A) → P k a → ⊥) → ⊥) where
   abbrev with_item : ℕ → A → (ℕ → A) → ℕ → A
