@@ -8,19 +8,16 @@ use Rattle.asm_core.specs.Flag.{flag_number, flag_in}
 use Rattle.asm_core.specs.Frame.{HoldsOutput, MayWrite, MayChange, MayDiffer, IsFramed}
 use Rattle.asm_core.specs.Lists.{IsMember}
 use Rattle.asm_core.specs.Machine.{IsMachine, Location, Keeps, value_at, byte_at, layouts_of}
-use Rattle.asm_core.specs.MicroOps.{Stepped, values_of, read_in, row_ended}
 use Rattle.asm_core.specs.Placement.{IsAllowed}
 use Rattle.asm_core.specs.Reading.Placed.{inst_under}
 use Rattle.asm_core.specs.Reg.{IsIn}
-use Rattle.asm_core.specs.RowLaws.{HoldsAfter}
-use Rattle.asm_core.specs.Rows.{inst_row, line_row, row_step}
+use Rattle.asm_core.specs.Rows.{row_step}
 use Rattle.asm_core.specs.Run.{Outcome, run_of}
 use Rattle.asm_core.specs.Shape.{shapes_of}
 use Rattle.asm_core.specs.Steps.{IsAfter, Stand}
 use Rattle.asm_core.specs.WellFormed.{IsInterface}
 use Rattle.asm_core.proofs.PlacedLaws.{steps_as_line}
-use Rattle.asm_core.proofs.Runs.{IsKept, EndsIn, runs_in}
-use Rattle.asm_core.proofs.StepLaws.{ended_holds}
+use Rattle.asm_core.proofs.Runs.{EndsIn}
 use Rattle.asm_core.specs.declared.flag.Flag.{Flag}
 use Rattle.asm_core.specs.declared.flag.Flag.TheVariants as flags
 use Rattle.asm_core.specs.declared.inst.Code.{Code}
@@ -57,23 +54,11 @@ use Rattle.blk_frame.proofs.MachineKept.{machine_kept}
 use Rattle.blk_frame.proofs.MemoryKept.{memory_kept}
 use Rattle.blk_frame.proofs.ReadLines.{LineFits}
 use Rattle.blk_frame.proofs.RegistersKept.{registers_kept}
+use Rattle.blk_frame.proofs.RunInduction.{runs_in}
 use Rattle.blk_frame.proofs.StackMoves.{depth_behind, repeat_rests, stack_moves}
 use Rattle.blk_frame.proofs.WayThere.{way_there}
 
--- ---- steps
-
-step_goes : (i : Inst) (goal choice : ℕ) (words : List ℕ) (m : Machine) → HoldsAfter (λ next. Unit {0}) (row_step i goal choice words m)
-step_goes i goal choice words m =
-    ended_holds (λ next. Unit {0}) (inst_row i) i goal (values_of i.width (read_in i choice words m) (inst_row i)) m
-    (λ e. tt) (λ e. tt)
-
--- what holds of each state after a step that is no fault
-holds_after : (P : Machine → Type 0) (s : Stepped) → HoldsAfter (λ next. Unit {0}) s
-    → ((after : Machine) → IsAfter s after → P after) → HoldsAfter P s
-holds_after P (Stepped.Moved next) goes each = each next refl
-holds_after P (Stepped.MovedOutside next) goes each = each next refl
-holds_after P Stepped.Ended goes each = absurd goes
-holds_after P (Stepped.Faulted fault) goes each = tt
+-- ---- lines
 
 line_there : (p : Placement) (insts : List Sym) (n : ℕ) (inst : Inst) → slice_get (map (inst_under p) insts) n ≡ Some inst
     → (line : Sym) × (slice_get insts n ≡ Some line) × (inst ≡ inst_under p line)
@@ -310,17 +295,14 @@ module _ (x : Setting) (graphs : List Graph) (number : ℕ) (is : IsShapeOf x gr
           (known_again m w.node w.at w.path turns.to line here turns.known.depth w.machine w.layouts w.stack w.memory choice words next step more turns.known)
           (inl (repeated_bare line w.node here more))
 
-  each_kept : IsKept Kept (placed_code p x.graph)
-  each_kept = record { each = each } where
-    each : (m : Machine) (i : Inst) (choice : ℕ) (words : List ℕ) → slice_get (map (inst_under p) x.graph.insts) m.at ≡ Some i → Kept m
-        → HoldsAfter Kept (row_step i (slice_index x.graph.goals m.at) choice words m)
-    each m i choice words e w =
-        let found = line_there p x.graph.insts m.at i e in
-        holds_after Kept (row_step i (slice_index x.graph.goals m.at) choice words m) (step_goes i (slice_index x.graph.goals m.at) choice words m)
-        (λ next after.
-            step_kept m found.0 choice words next w (subst (λ n. slice_get x.graph.insts n ≡ Some found.0) w.at found.1.0)
-            (subst (λ n. IsAfter (row_step (inst_under p found.0) (slice_index x.graph.goals n) choice words m) next) w.at
-            (subst (λ (j : Inst). IsAfter (row_step j (slice_index x.graph.goals m.at) choice words m) next) found.1.1 after)))
+  each_kept : (m : Machine) (i : Inst) (choice : ℕ) (words : List ℕ) (next : Machine) → Kept m
+      → slice_get (map (inst_under p) x.graph.insts) m.at ≡ Some i
+      → IsAfter (row_step i (slice_index x.graph.goals m.at) choice words m) next → Kept next
+  each_kept m i choice words next w e step =
+      let found = line_there p x.graph.insts m.at i e in
+      step_kept m found.0 choice words next w (subst (λ n. slice_get x.graph.insts n ≡ Some found.0) w.at found.1.0)
+      (subst (λ n. IsAfter (row_step (inst_under p found.0) (slice_index x.graph.goals n) choice words m) next) w.at
+      (subst (λ (j : Inst). IsAfter (row_step j (slice_index x.graph.goals m.at) choice words m) next) found.1.1 step))
 
   -- ---- how a run ends
 
@@ -403,4 +385,4 @@ module _ (x : Setting) (graphs : List Graph) (number : ℕ) (is : IsShapeOf x gr
       → IsFramed x.interface x.shape p entry (run_of (placed_code p x.graph) n choices outside entry)
   framed n choices outside =
       by_outcome (run_of (placed_code p x.graph) n choices outside entry)
-      (runs_in Kept (placed_code p x.graph) each_kept n choices outside entry at_start)
+      (runs_in (placed_code p x.graph) Kept each_kept n choices outside entry at_start)

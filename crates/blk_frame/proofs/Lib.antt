@@ -40,3 +40,6 @@ pub mod ReadLines
 pub mod RegistersKept
 pub mod StackMoves
 pub mod WayThere
+pub mod Stable
+pub mod RunInduction
+pub mod SettingsThere
