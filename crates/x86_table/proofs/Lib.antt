@@ -2,7 +2,7 @@ pub mod Ends
 pub mod EntryLaws
 pub mod Fits
 pub mod Idle
-mod NamesCheck
+pub mod NamesCheck
 pub mod LinesFit
 pub mod NamesFit
 pub mod OverLaws
