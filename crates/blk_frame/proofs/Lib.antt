@@ -28,3 +28,9 @@ pub mod PathRules
 pub mod Turns
 pub mod Repeats
 pub mod StackKept
+pub mod LineEnds
+pub mod LayoutsKept
+pub mod WayThere
+pub mod StackMoves
+pub mod DepthsThere
+pub mod MachineKept
