@@ -28,7 +28,7 @@ use Rattle.asm_core.specs.declared.machine.Range.{Range}
 use Rattle.asm_core.specs.declared.machine.Machine.{Machine}
 use Rattle.asm_core.proofs.MachineLaws.{put_all_words}
 use Rattle.x86_table.specs.TableLaws.{IsStepped}
-use Rattle.blk_frame.proofs.LineEnds.{values_at, line_ended}
+use Rattle.blk_frame.proofs.LineEnds.{values_at, written_at, line_ended}
 use Rattle.blk_frame.proofs.LayoutsKept.{layouts_kept}
 
 -- ---- ranges
@@ -268,8 +268,10 @@ machine_kept line x stepped small small_goal =
     line_ended (λ (m : Machine). layouts_of m.ranges ≡ layouts_of x.before.ranges → IsMachine m) line x stepped
     (λ over same. whole x.before (record x.before { at = x.before.at + 1 }) is same
     (moved_numbers x.before (x.before.at + 1) (numbers_of x.before is)) is.regs (omega (arith, small)))
-    (λ more same. whole x.before _ is same
-    (moved_numbers _ _ (put_all_numbers ds 0 (values_at line x) x.before
+    (λ more same. whole x.before (written_at line x) is same
+    (moved_numbers (put_all ds 0 (values_at line x) x.before)
+    (next_of (line_row line) (values_at line x) x.goal x.before.at)
+    (put_all_numbers ds 0 (values_at line x) x.before
     (few_pops (inst_under x.at line) x.before (line_row line) is.pushed) (numbers_of x.before is)))
     (put_all_words ds 0 (values_at line x) x.before (record { words = is.regs })).words
     (next_small (line_row line) (values_at line x) x.goal x.before.at small small_goal))

@@ -2,7 +2,6 @@
 use Rattle.std.proofs.Common.{◌≡◌, ◌⊎◌, inl, inr, ℕ, zero, suc, ◌+◌, ◌&&◌, ◌||◌, Bool, true, false, List, [], ◌∷◌, ◌++◌, length, slice_index, Option, None, Some, slice_get, if◌then◌else◌, refl, sym, ap, subst, ◌∙◌}
 use Rattle.std.proofs.lemmas.Bool.{both_ways}
 use Rattle.asm_core.specs.MicroOps.{is_set, is_jump, is_stay, any_value, is_over, values_of}
-use Rattle.asm_core.specs.MicroOps as ops
 use Rattle.asm_core.specs.RowTerms.{op1, op3, arg, to_arg, repeated}
 use Rattle.asm_core.specs.Rows.{line_row}
 use Rattle.asm_core.specs.Steps.{Stand, reads_at}
