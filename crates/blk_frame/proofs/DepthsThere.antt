@@ -1,5 +1,5 @@
 -- What the depths of a block say of paths, where no rule on the stack is broken.
-use Rattle.std.proofs.Common.{◌≡◌, ◌⊎◌, inl, inr, ℕ, zero, suc, ◌+◌, ◌-◌, ◌<◌, ◌≤◌, ◌&&◌, ◌||◌, nat_lt, nat_le, Bool, true, false, List, [], ◌∷◌, Option, None, Some, slice_get, slice_index, refl, sym, ap, subst, ◌∙◌, arith}
+use Rattle.std.proofs.Common.{◌≡◌, ◌⊎◌, inl, inr, ℕ, ◌+◌, ◌-◌, ◌<◌, ◌≤◌, ◌&&◌, ◌||◌, nat_lt, nat_le, Bool, true, false, List, [], ◌∷◌, Option, None, Some, slice_get, slice_index, refl, sym, ap, subst, ◌∙◌, arith}
 use Rattle.std.proofs.lemmas.Bool.{cases_eq, or_left, or_right, and_from}
 use Rattle.std.proofs.lemmas.Bool.Decides.{nat_tests}
 use Rattle.std.proofs.lemmas.Option.{slice_get_within}
@@ -96,11 +96,13 @@ module _ (g : Graph) (sound : IsSound g) (depths : List ℕ) (are : AreDepths g 
   depth_on path n line is at j way =
       let before = facts_along no_words (depths_after g) path in
       let d = slice_index depths n in
-      are.reached j (depth_behind line d)
-      ((n ∷ path), (is, slice_get_within g.insts n line at, way),
-      ap (λ o. depths_by o before (depth_of (depth_behind line d))) at
-      ∙ fits_behind (pushes line) (pops line) before d (depth_few path n is) (at_path path n is)
-      (overrun_at path n line is at))
+      are.reached j (depth_behind line d) (
+        (n ∷ path),
+        (is, slice_get_within g.insts n line at, way),
+        ap (λ o. depths_by o before (depth_of (depth_behind line d))) at
+            ∙ fits_behind (pushes line) (pops line) before d (depth_few path n is) (at_path path n is)
+            (overrun_at path n line is at),
+      )
 
   pub depth_end : (path : List ℕ) → IsPathTo (size_of g) (goes g) path (size_of g)
       → slice_index depths (size_of g) ≡ 0

@@ -1,5 +1,5 @@
 -- A step of a line leaves a machine whose numbers are those of its fields' types.
-use Rattle.std.proofs.Common.{◌≡◌, ◌≢◌, ℕ, zero, suc, ◌+◌, ◌-◌, ◌*◌, ◌/◌, ◌%◌, ◌^◌, ◌<◌, ◌≤◌, nat_le, nat_lt, ◌&&◌, List, [], ◌∷◌, length, map, Bool, true, false, IsTrue, Option, None, Some, slice_get, slice_index, slice_set, if◌then◌else◌, refl, sym, ap, subst, ◌∙◌, arith}
+use Rattle.std.proofs.Common.{◌≡◌, ◌≢◌, ℕ, zero, suc, ◌+◌, ◌-◌, ◌*◌, ◌/◌, ◌%◌, ◌^◌, ◌<◌, ◌≤◌, nat_le, nat_lt, ◌&&◌, List, [], ◌∷◌, length, Bool, true, false, IsTrue, Option, None, Some, slice_get, slice_index, slice_set, if◌then◌else◌, refl, sym, ap, subst, ◌∙◌, arith}
 use Rattle.std.specs.List.{All}
 use Rattle.std.specs.Option.{option_map}
 use Rattle.std.proofs.lemmas.Bool.{ltb-true}
@@ -9,7 +9,7 @@ use Rattle.std.proofs.lemmas.Option.{slice_get-map}
 use Rattle.asm_core.specs.Flag.{with_flag}
 use Rattle.asm_core.specs.Machine.{IsMachine, IsRange, RangesApart, Layout, layout_of, layouts_of, covers, reg_in}
 use Rattle.asm_core.specs.Memory.{put_byte, with_byte, with_word, with_scratch_word}
-use Rattle.asm_core.specs.MicroOps.{arg_at, arg_destination, site_destination, destination_of, destinations_of, with_part, pushed, put, put_all, next_of, any_value, is_jump, is_stay, is_set}
+use Rattle.asm_core.specs.MicroOps.{arg_at, arg_destination, destination_of, destinations_of, with_part, pushed, put, put_all, next_of, any_value, is_jump, is_stay, is_set}
 use Rattle.asm_core.specs.Reading.Placed.{inst_under}
 use Rattle.asm_core.specs.Reg.{reg_number}
 use Rattle.asm_core.specs.Rows.{line_row}

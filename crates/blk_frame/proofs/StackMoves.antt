@@ -1,9 +1,9 @@
 -- How a step of a line moves the stack: by the word that it pushes or pops, and esp with it.
-use Rattle.std.proofs.Common.{◌≡◌, ◌⊎◌, inl, inr, ℕ, zero, suc, ◌+◌, ◌-◌, ◌*◌, ◌%◌, ◌^◌, ◌<◌, nat_lt, ◌&&◌, not, Bool, true, false, List, [], ◌∷◌, ◌++◌, length, map, Option, None, Some, slice_get, slice_index, if◌then◌else◌, refl, sym, ap, ap₂, subst, ◌∙◌, arith}
+use Rattle.std.proofs.Common.{◌≡◌, ◌⊎◌, inl, inr, ℕ, zero, suc, ◌+◌, ◌-◌, ◌*◌, ◌%◌, ◌^◌, ◌<◌, ◌&&◌, not, Bool, true, false, List, [], ◌∷◌, ◌++◌, length, map, Option, None, Some, slice_get, slice_index, if◌then◌else◌, refl, sym, ap, ap₂, subst, ◌∙◌, arith}
 use Rattle.std.specs.List.{list_all, list_any, cons_option}
 use Rattle.std.proofs.lemmas.Bool.{both_ways, and_parts, and_from, lt-ltb}
 use Rattle.asm_core.specs.Entries.{write_to, writes_of, by_of}
-use Rattle.asm_core.specs.MicroOps.{arg_at, arg_destination, destinations_of, is_over, put, put_all, pushed, values_of, written}
+use Rattle.asm_core.specs.MicroOps.{arg_at, arg_destination, is_over, put, pushed, written}
 use Rattle.asm_core.specs.Reading.Placed.{inst_under}
 use Rattle.asm_core.specs.Rows.{is_zero_count, same_register, line_row, entry_row}
 use Rattle.asm_core.specs.RowTerms.{op1, op2, op3, arg, to_arg, reg, to_reg, as_temporary, guarded_op, guarded, turn_of, repeated}
@@ -34,7 +34,7 @@ use Rattle.x86_table.specs.TableLaws.{IsStepped}
 use Rattle.x86_table.proofs.TableTurns.{never_over}
 use Rattle.blk_deps.specs.Stack.{is_push, is_pop, pushes, pops}
 use Rattle.blk_deps.specs.StackTable.{moves_stack}
-use Rattle.blk_frame.specs.Laws.{IsTableStep, FactsHold}
+use Rattle.blk_frame.specs.Laws.{IsTableStep}
 use Rattle.blk_frame.proofs.FactsHeld.{table_facts_held}
 use Rattle.blk_frame.proofs.LineEnds.{values_at, line_ended}
 use Rattle.blk_frame.proofs.WayThere.{plain_row}
@@ -322,7 +322,7 @@ module _ (line : Sym) (x : Stand) where
         let room = step.room push in
         let at_depth = step.at_depth in
         let number : x.before.scratch_top + 1 ≡ depth_behind line depth =
-            ap (λ n. n + 1) at_depth ∙ sym (ap (λ b. depth_by b (pops line) depth) push) in
+        ap (λ n. n + 1) at_depth ∙ sym (ap (λ b. depth_by b (pops line) depth) push) in
         subst (λ d. StackAt x.before d x.after) number
         (alone_ended (StackAt x.before (x.before.scratch_top + 1)) step.stepped none
         (subst (λ row. StackAt x.before (x.before.scratch_top + 1) (by_row row)) (sym (push_row_is line none is))
@@ -334,7 +334,7 @@ module _ (line : Sym) (x : Stand) where
         let more = some pop.1 in
         let at_depth = step.at_depth in
         let number : x.before.scratch_top - 1 ≡ depth_behind line depth =
-            ap (λ n. n - 1) at_depth ∙ sym (ap₂ (λ b c. depth_by b c depth) pop.0 pop.1) in
+        ap (λ n. n - 1) at_depth ∙ sym (ap₂ (λ b c. depth_by b c depth) pop.0 pop.1) in
         subst (λ d. StackAt x.before d x.after) number
         (alone_ended (StackAt x.before (x.before.scratch_top - 1)) step.stepped none
         (subst (λ row. StackAt x.before (x.before.scratch_top - 1) (by_row row)) (sym (pop_row_is line none is))
@@ -343,8 +343,7 @@ module _ (line : Sym) (x : Stand) where
     behind_level : are_level (line_row line) ≡ true → StackAt x.before (depth_behind line depth) x.after
     behind_level level =
         let rests = level_rests line level in
-        let kept = table_facts_held.stack i s depth line x step rests.0 rests.1 in
-        (
+        let kept = table_facts_held.stack i s depth line x step rests.0 rests.1 in (
           kept.0 ∙ step.at_depth ∙ sym (ap₂ (λ b c. depth_by b c depth) rests.0 rests.1),
           ap₂ (λ e n. (e + 4 * n) % 2 ^ 32) kept.1 kept.0,
         )

@@ -1,5 +1,5 @@
 -- A step goes on at a node to which a way goes, or, if the line is repeated, at the same one.
-use Rattle.std.proofs.Common.{◌≡◌, ◌⊎◌, inl, inr, ℕ, zero, suc, ◌+◌, ◌&&◌, ◌||◌, Bool, true, false, List, [], ◌∷◌, ◌++◌, length, slice_index, Option, None, Some, slice_get, if◌then◌else◌, refl, sym, ap, subst, ◌∙◌}
+use Rattle.std.proofs.Common.{◌≡◌, ◌⊎◌, inl, inr, ℕ, zero, suc, ◌+◌, ◌&&◌, ◌||◌, Bool, true, false, List, [], ◌∷◌, ◌++◌, length, slice_index, Some, slice_get, if◌then◌else◌, refl, sym, ap, ◌∙◌}
 use Rattle.std.proofs.lemmas.Bool.{both_ways}
 use Rattle.asm_core.specs.MicroOps.{is_set, is_jump, is_stay, any_value, is_over, values_of}
 use Rattle.asm_core.specs.RowTerms.{op1, op3, arg, to_arg, repeated}
