@@ -14,4 +14,5 @@ use Rattle.blk_frame.proofs.LineEnds.{values_at, line_ended}
 pub layouts_kept : (line : Sym) (x : Stand) → IsStepped line x → layouts_of x.after.ranges ≡ layouts_of x.before.ranges
 layouts_kept line x stepped =
     line_ended (λ (m : Machine). layouts_of m.ranges ≡ layouts_of x.before.ranges) line x stepped (λ over. refl)
-    (λ more. put_all_layouts (destinations_of (inst_under x.at line) x.before (line_row line)) 0 (values_at line x) x.before)
+    (λ more. put_all_layouts (destinations_of (inst_under x.at line) x.before (line_row line)) 0
+    (values_at line x) x.before)

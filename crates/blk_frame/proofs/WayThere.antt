@@ -34,7 +34,8 @@ after_condition Cond.O op vs none = ap (λ t. t && is_set (slice_index vs 3) || 
 after_condition c op vs none = ap (λ t. t && is_set (slice_index vs 3) || false) none
 
 never_stays : (op : Op) (w : Width) (n : ℕ) (vs : List ℕ) → any_value is_stay is_set (row_of op w n) 0 vs ≡ false
-never_stays (Op.Cmov c) w n vs = after_condition c (op3 (to_arg 1) Function.Pick (Input.Earlier 2) (arg 0) (arg 1)) vs refl
+never_stays (Op.Cmov c) w n vs = after_condition c
+    (op3 (to_arg 1) Function.Pick (Input.Earlier 2) (arg 0) (arg 1)) vs refl
 never_stays (Op.Set c) w n vs = after_condition c (op1 (to_arg 0) Function.Value (Input.Earlier 2)) vs refl
 never_stays (Op.J c) w n vs = after_condition c (op1 Target.Jump Function.Value (Input.Earlier 2)) vs refl
 never_stays Op.Imul w zero vs = refl
@@ -91,7 +92,8 @@ module _ (g : Graph) (line : Sym) (n : ℕ) (x : Stand) (at : slice_get g.insts 
       ∙ never_over Op.Jmp line.width (length line.args) (values_at line x)
 
   idle : is_over (line_row line) (values_at line x) ≡ true → IsWay (x.before.at + 1)
-  idle over = by_truth (always_jumps line.op) (λ is. absurd (both_ways _ (not_over is) over)) (λ none. inl (next_way none))
+  idle over = by_truth (always_jumps line.op) (λ is. absurd (both_ways _ (not_over is) over))
+      (λ none. inl (next_way none))
 
   stays_repeated : any_value is_stay is_set (line_row line) 0 (values_at line x) ≡ true → line.repeat ≡ Repeat.No → ⊥
   stays_repeated stays none =
