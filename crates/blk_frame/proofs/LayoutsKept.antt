@@ -1,43 +1,18 @@
--- Stub.
-use Rattle.std.proofs.Common.{◌≡◌, ◌⊎◌, ℕ, ◌+◌, ◌*◌, ◌-◌, ◌%◌, ◌^◌, ◌<◌, ◌≤◌, List, [], ◌∷◌, Bool, true, false, if◌then◌else◌, Option, None, Some, slice_get, slice_index}
-use Rattle.asm_core.specs.Entry.{IsEntry}
-use Rattle.asm_core.specs.Flag.{flag_number, flag_in}
-use Rattle.asm_core.specs.Frame.{HoldsOutput, MayWrite}
-use Rattle.asm_core.specs.Lists.{IsMember}
-use Rattle.asm_core.specs.Machine.{IsMachine, byte_at, layouts_of, reg_in}
-use Rattle.asm_core.specs.Placement.{IsAllowed}
-use Rattle.asm_core.specs.Reg.{IsIn}
-use Rattle.asm_core.specs.RowLaws.{IsPlaced, FitsTargets, FitsCopies}
+-- A step of a line leaves its ranges where they are.
+use Rattle.std.proofs.Common.{◌≡◌, refl}
+use Rattle.asm_core.specs.Machine.{layouts_of}
+use Rattle.asm_core.specs.MicroOps.{destinations_of}
+use Rattle.asm_core.specs.Reading.Placed.{inst_under}
 use Rattle.asm_core.specs.Rows.{line_row}
-use Rattle.asm_core.specs.Shape.{shapes_of}
 use Rattle.asm_core.specs.Steps.{Stand}
-use Rattle.asm_core.specs.WellFormed.{IsInterface}
-use Rattle.asm_core.specs.declared.flag.Flag.{Flag}
-use Rattle.asm_core.specs.declared.inst.Repeat.{Repeat}
-use Rattle.asm_core.specs.declared.interface.Interface.{Interface}
-use Rattle.asm_core.specs.declared.lines.Graph.{Graph}
-use Rattle.asm_core.specs.declared.machine.Machine.{Machine}
-use Rattle.asm_core.specs.declared.placement.Placement.{Placement}
-use Rattle.asm_core.specs.declared.reg.Reg.{Reg}
-use Rattle.asm_core.specs.declared.shape.Shape.{Shape}
 use Rattle.asm_core.specs.declared.sym.Sym.{Sym}
-use Rattle.dataflow.specs.Paths.{IsPathTo}
-use Rattle.x86_table.specs.TableLaws.{IsStepped, IsPlain}
-use Rattle.blk_flow.specs.Graph.{always_jumps}
-use Rattle.blk_deps.specs.declared.fact.Fact.TheVariants.{Here, Has, DirectionSet}
-use Rattle.blk_deps.specs.declared.fact.Property.TheVariants.{NotEntryOf, Pair}
-use Rattle.blk_deps.specs.Cells.{flag_cell}
-use Rattle.blk_deps.specs.Facts.{Facts, after_moves}
-use Rattle.blk_deps.specs.Findings.{Setting}
-use Rattle.blk_deps.specs.Line.{line_reads, line_puts}
-use Rattle.blk_deps.specs.Stack.{pushes, pops, AreDepths}
-use Rattle.blk_deps.specs.StackTable.{IsSound}
-use Rattle.blk_deps.specs.Ways.{IsGraph, size_of, goes}
-use Rattle.blk_frame.specs.Accepted.{EndsSound, PassesSound, facts_on}
-use Rattle.blk_frame.specs.Laws.{Holds, IsTableStep, AreStates}
-use Rattle.blk_frame.specs.Shown.{placed_by}
-use Rattle.blk_frame.specs.Lines.{IsOfShape}
+use Rattle.asm_core.specs.declared.machine.Machine.{Machine}
+use Rattle.asm_core.proofs.Puts.{put_all_layouts}
+use Rattle.x86_table.specs.TableLaws.{IsStepped}
+use Rattle.blk_frame.proofs.LineEnds.{values_at, line_ended}
 
 pub layouts_kept : (line : Sym) (x : Stand) → IsStepped line x → layouts_of x.after.ranges ≡ layouts_of x.before.ranges
-layouts_kept = ?
-
+layouts_kept line x stepped =
+    line_ended (λ (m : Machine). layouts_of m.ranges ≡ layouts_of x.before.ranges) line x stepped (λ over. refl)
+    (λ more. put_all_layouts (destinations_of (inst_under x.at line) x.before (line_row line)) 0
+    (values_at line x) x.before)
