@@ -28,3 +28,4 @@ pub mod PathRules
 pub mod Turns
 pub mod Repeats
 pub mod StackKept
+pub mod StoreRules
