@@ -29,3 +29,4 @@ pub mod Turns
 pub mod Repeats
 pub mod StackKept
 pub mod StoreRules
+pub mod OpStores
