@@ -30,3 +30,4 @@ pub mod Repeats
 pub mod StackKept
 pub mod StoreRules
 pub mod OpStores
+pub mod StoresTold
