@@ -31,3 +31,4 @@ pub mod StackKept
 pub mod StoreRules
 pub mod OpStores
 pub mod StoresTold
+pub mod MemoryKept

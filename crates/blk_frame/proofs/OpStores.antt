@@ -289,7 +289,7 @@ from_filter_map {A} f (x ∷ xs) y is = by (f x) refl is
     by (Some z) e (inl same) = (x, inl refl, e ∙ ap Some (sym same))
     by (Some z) e (inr later) = let rest = from_filter_map f xs y later in (rest.0, inr rest.1, rest.2)
 
-in_filter_map : {A B : Type 0} (f : A → Option B) (xs : List A) (x : A) (y : B) → IsMember x xs → f x ≡ Some y
+pub in_filter_map : {A B : Type 0} (f : A → Option B) (xs : List A) (x : A) (y : B) → IsMember x xs → f x ≡ Some y
     → IsMember y (filter_map f xs)
 in_filter_map f [] x y is e = absurd is
 in_filter_map f (a ∷ xs) x y (inl same) e =
