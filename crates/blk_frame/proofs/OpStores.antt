@@ -266,28 +266,31 @@ module _ (s : Sym) (w : Width) where
   row_stores o c n [] op whole each member is = absurd member
   row_stores o c n (first ∷ ops) op whole each member is =
       by (target_store w o first.target) refl member
+      (λ later. row_stores o c n ops op (and_parts _ _ whole).1 each later is)
     where
       parts : (is_whole_target s first.target ≡ true) × (are_whole s ops ≡ true)
       parts = and_parts _ _ whole
 
       by : (found : Option ℕ) → target_store w o first.target ≡ found → (op ≡ first) ⊎ IsMember op ops
-          → or_else found (row_access true w o ops) ≡ Some c
-      by (Some m) e h = ap Some (each first.target m parts.0 e)
-      by None e (inl same) = cc
-      by None e (inr later) = row_stores o c n ops op parts.1 each later is
+          → (IsMember op ops → row_access true w o ops ≡ Some c) → or_else found (row_access true w o ops) ≡ Some c
+      by (Some m) e h rest = ap Some (each first.target m parts.0 e)
+      by None e (inl same) rest =
+          let gone : target_store w o op.target ≡ None = ap (λ (y : MicroOp). target_store w o y.target) same ∙ e in cc
+      by None e (inr later) rest = rest later
 
 -- ---- accesses
 
 from_filter_map : {A B : Type 0} (f : A → Option B) (xs : List A) (y : B) → IsMember y (filter_map f xs)
     → (x : A) × IsMember x xs × (f x ≡ Some y)
 from_filter_map f [] y is = absurd is
-from_filter_map {A} f (x ∷ xs) y is = by (f x) refl is
+from_filter_map {A} {B} f (x ∷ xs) y is = by (f x) refl is (λ later. from_filter_map f xs y later)
   where
-    by : (o : Option _) → f x ≡ o → IsMember y (cons_option o (filter_map f xs))
+    by : (o : Option B) → f x ≡ o → IsMember y (cons_option o (filter_map f xs))
+        → (IsMember y (filter_map f xs) → (a : A) × IsMember a xs × (f a ≡ Some y))
         → (a : A) × IsMember a (x ∷ xs) × (f a ≡ Some y)
-    by None e is = let rest = from_filter_map f xs y is in (rest.0, inr rest.1, rest.2)
-    by (Some z) e (inl same) = (x, inl refl, e ∙ ap Some (sym same))
-    by (Some z) e (inr later) = let rest = from_filter_map f xs y later in (rest.0, inr rest.1, rest.2)
+    by None e is rest = let found = rest is in (found.0, inr found.1, found.2)
+    by (Some z) e (inl same) rest = (x, inl refl, e ∙ ap Some (sym same))
+    by (Some z) e (inr later) rest = let found = rest later in (found.0, inr found.1, found.2)
 
 pub in_filter_map : {A B : Type 0} (f : A → Option B) (xs : List A) (x : A) (y : B) → IsMember x xs → f x ≡ Some y
     → IsMember y (filter_map f xs)

@@ -102,28 +102,29 @@ stored_by i m (op ∷ ops) a good (inr hit) =
     let rest = stored_by i m ops a (and_parts (is_good_op i m op) (list_all (is_good_op i m) ops) good).1 hit in
     record { op = rest.op; is_op = inr rest.is_op; good = rest.good; hit = rest.hit }
 
--- a byte that no such micro-operation has is as it was
-pub byte_kept : (line : Sym) (x : Stand) (a : ℕ) → IsStepped line x
-    → (IsStoredBy (inst_under x.at line) x.before (line_row line) a → ⊥)
-    → byte_at x.after.ranges a ≡ byte_at x.before.ranges a
-byte_kept line x a stepped missed =
-    holds_of Kept (row_ended (line_row line) (inst_under x.at line) x.goal x.choice x.words x.before) x.after
-    (by (is_over (line_row line) vs) refl) stepped.step
-  where
-    abbrev Kept : Machine → Type 0
-    Kept m = byte_at m.ranges a ≡ byte_at x.before.ranges a
+module _ (line : Sym) (x : Stand) (a : ℕ) where
+  abbrev Kept : Machine → Type 0
+  Kept m = byte_at m.ranges a ≡ byte_at x.before.ranges a
 
-    abbrev vs : List ℕ
-    vs = values_of line.width (reads_at line x) (line_row line)
+  abbrev vs : List ℕ
+  vs = values_of line.width (reads_at line x) (line_row line)
 
-    by : (over : Bool) → is_over (line_row line) vs ≡ over
+  module _ (missed : IsStoredBy (inst_under x.at line) x.before (line_row line) a → ⊥) where
+    kept_by : (over : Bool) → is_over (line_row line) vs ≡ over
         → HoldsAfter Kept (row_ended (line_row line) (inst_under x.at line) x.goal x.choice x.words x.before)
-    by true e = ended_holds Kept (line_row line) (inst_under x.at line) x.goal vs x.before (λ over. refl)
+    kept_by true e = ended_holds Kept (line_row line) (inst_under x.at line) x.goal vs x.before (λ over. refl)
         (λ none. absurd (both_ways _ none e))
-    by false e = done_holds Kept (line_row line) (inst_under x.at line) x.goal vs x.before e (λ good.
+    kept_by false e = done_holds Kept (line_row line) (inst_under x.at line) x.goal vs x.before e (λ good.
         put_all_keeps (destinations_of (inst_under x.at line) x.before (line_row line)) 0 vs x.before
         (Component.MemoryByte a)
         (λ hit. missed (stored_by (inst_under x.at line) x.before (line_row line) a good hit)))
+
+  -- a byte that no such micro-operation has is as it was
+  pub byte_kept : IsStepped line x → (IsStoredBy (inst_under x.at line) x.before (line_row line) a → ⊥)
+      → byte_at x.after.ranges a ≡ byte_at x.before.ranges a
+  byte_kept stepped missed = holds_of Kept
+      (row_ended (line_row line) (inst_under x.at line) x.goal x.choice x.words x.before) x.after
+      (kept_by missed (is_over (line_row line) vs) refl) stepped.step
 
 -- ---- where the entries' row is another one
 
