@@ -11,7 +11,7 @@ use Rattle.asm_core.specs.Memory.{address_of, is_open_to, is_good_access}
 use Rattle.asm_core.specs.MicroOps.{first_of, count_of, arg_at, is_good_arg, is_good_target, is_good_op, arg_destination, destination_of}
 use Rattle.asm_core.specs.Entries.{arg_or_zero, pointed_arg, by_of, write_to_site, write_to, write_of}
 use Rattle.asm_core.specs.Placement.{spot_of, tie_root, is_output}
-use Rattle.asm_core.specs.Reading.Placed.{placed_disp, placed_base, placed_index, spot_form, operand_under, operand_at, inst_under}
+use Rattle.asm_core.specs.Reading.Placed.{placed_place, placed_disp, placed_base, placed_index, spot_form, operand_under, operand_at, inst_under}
 use Rattle.asm_core.specs.Reading.Text as text
 use Rattle.asm_core.specs.RowLaws.{Component, IsHit, LiesAt, IsToldByOne}
 use Rattle.asm_core.specs.Rows.{line_row, entry_row}
@@ -100,7 +100,7 @@ untied_place i s k is = by (slice_get i.operands k) refl (there_below i.operands
     } where
       from_zero : (n : ℕ) → 0 + n ≡ n
       from_zero n = omega arith
-    by None e low = let some = parts.0 in let gone = rw e some in cc
+    by None e low = let gone : false ≡ true = ap is_some (sym e) ∙ parts.0 in cc
 
 same_range : (rs qs : List Range) (r : Range) → layouts_of rs ≡ layouts_of qs → IsMember r rs → (q : Range)
     × IsMember q qs × (layout_of q ≡ layout_of r)
@@ -181,7 +181,8 @@ module _ (i : Interface) (live : List Shape) (s : Shape) (depth : ℕ) (line : S
       where
         by : (line.args ≡ []) ⊎ Holds (placed_by i s x.at) entry facts x.before
             → address_of form x.before ≡ address_of form entry
-        by (inl bare) = let none = rw bare is_arg in cc
+        by (inl bare) = let gone : slice_get [] k ≡ Some (Arg.Memory j) = ap (λ l. slice_get l k) (sym bare) ∙ is_arg in
+            cc
         by (inr holds) = same_address i s x.at entry x.before facts holds step.interface states j form there spot
             (not_overwritten i live s depth line facts sound step.interface stored.access j stored.is_access
             stored.there there)
@@ -204,10 +205,11 @@ module _ (i : Interface) (live : List Shape) (s : Shape) (depth : ℕ) (line : S
       object = (is_entry.owned q j member owner).1
 
       above : q.base ≤ a
-      above = leb-true q.base a (and_parts _ _ inside).0
+      above = leb-true q.base a (and_parts (nat_le q.base a) (nat_lt a (q.base + length q.bytes)) inside).0
 
       below : a < q.base + length q.bytes
-      below = ltb-true a (q.base + length q.bytes) (and_parts _ _ inside).1
+      below = ltb-true a (q.base + length q.bytes)
+          (and_parts (nat_le q.base a) (nat_lt a (q.base + length q.bytes)) inside).1
 
     -- in one that nobody owns
     open_written : reached.range.owner ≡ None → May
@@ -303,7 +305,7 @@ module _ (i : Interface) (live : List Shape) (s : Shape) (depth : ℕ) (line : S
     by_arg (Some (Arg.Address disp base index)) e hit good within =
         by_disp (Arg.Address disp base index) (placed_disp x.at disp) (placed_base x.at base)
         (placed_index x.at index) refl hit good within
-    by_arg (Some (Arg.Register place slice)) e hit good within = no_register (placed_place x.at place) slice hit
+    by_arg (Some (Arg.Register at slice)) e hit good within = no_register (placed_place x.at at) slice hit
     by_arg (Some (Arg.Number n)) e hit good within = absurd hit
     by_arg (Some (Arg.Hole n)) e hit good within = no_number (placed_disp x.at (Disp.Hole n)) hit
     by_arg (Some (Arg.Label n)) e hit good within = absurd hit

@@ -340,6 +340,9 @@ module _ (s : Sym) (row : List MicroOp) (is_row : entry_row s ≡ row) where
 
 -- ---- all lines
 
+from_zero : (n : ℕ) → n ≡ 0 + n
+from_zero n = omega arith
+
 module _ (s : Sym) (whole : are_whole s (entry_row s) ≡ true) where
   rank_itself : (w : Width) (site : Site) → count_at w (site_origin w site) site ≡ Some (site_count w site)
   rank_itself w site = rw (eq-eqb (origin_rank (site_origin w site)) (origin_rank (site_origin w site)) refl) refl
@@ -356,10 +359,10 @@ module _ (s : Sym) (whole : are_whole s (entry_row s) ≡ true) where
         → memory_arg (line_arg s k) ≡ Some to → IsStored s to (first_of bytes + count_of s.width bytes)
     argument_stored k bytes to at there =
         subst (λ b. IsStored s to (first_of b + count_of s.width b)) (sym (all bytes (or_cases _ _ parts.1)))
-        (stored_at s (entry_row s) refl (Origin.Argument k) to (count_of s.width Bytes.Whole) (argument_origin k low)
+        (subst (IsStored s to) (from_zero (count_of s.width Bytes.Whole)) (stored_at s (entry_row s) refl (Origin.Argument k) to (count_of s.width Bytes.Whole) (argument_origin k low)
         there (row_stores s s.width (Origin.Argument k) (count_of s.width Bytes.Whole) (count_of s.width bytes)
         (entry_row s) op whole (argument_count s s.width k to low there) member
-        (ap (target_store s.width (Origin.Argument k)) at ∙ rank_itself s.width (Site.Argument k bytes))))
+        (ap (target_store s.width (Origin.Argument k)) at ∙ rank_itself s.width (Site.Argument k bytes)))))
       where
         parts : (nat_lt k 3 ≡ true) × ((is_whole bytes || is_none (memory_arg (line_arg s k))) ≡ true)
         parts = and_parts _ _ (ap (is_whole_target s) (sym at) ∙ whole_at (entry_row s) op whole member)
@@ -400,9 +403,6 @@ module _ (s : Sym) (whole : are_whole s (entry_row s) ≡ true) where
     write_whole w (Target.Site (Site.Pointed r)) at is =
         subst (λ (v : Write). IsStoredWhole s v.to (v.first + v.count)) (same_some _ _ is)
         (subst (IsStored s (pointed_arg r)) (from_zero (bits_of s.width / 8)) (pointed_stored r at))
-      where
-        from_zero : (n : ℕ) → n ≡ 0 + n
-        from_zero n = omega arith
     write_whole w (Target.Site (Site.Flag f)) at is =
         subst (λ (v : Write). IsStoredWhole s v.to (v.first + v.count)) (same_some _ _ is) tt
     write_whole w Target.Push at is =

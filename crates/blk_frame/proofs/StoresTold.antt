@@ -46,11 +46,10 @@ pub record IsReached (m : Machine) (through : Option ℕ) (a : ℕ) : Type 0 whe
 range_in : (test : Range → Bool) (rs : List Range) → list_any test rs ≡ true → (r : Range) × IsMember r rs
     × (test r ≡ true)
 range_in test [] is = cc
-range_in test (r ∷ rs) is = by (or_cases (test r) (list_any test rs) is)
-  where
-    by : (test r ≡ true) ⊎ (list_any test rs ≡ true) → (q : Range) × IsMember q (r ∷ rs) × (test q ≡ true)
-    by (inl here) = (r, inl refl, here)
-    by (inr later) = let rest = range_in test rs later in (rest.0, inr rest.1, rest.2)
+range_in test (r ∷ rs) is = elim (or_cases (test r) (list_any test rs) is) [
+  | inl here ↦ (r, inl refl, here)
+  | inr later ↦ let rest = range_in test rs later in (rest.0, inr rest.1, rest.2)
+]
 
 byte_reached : (m : Machine) (through : Option ℕ) (store : Bool) (a : ℕ) → is_good_byte m through store a ≡ true
     → IsReached m through a
@@ -139,8 +138,8 @@ no_byte p m place slice o a = by (placed_place p place) refl
   where
     by : (q : Place) → placed_place p place ≡ q
         → operand_byte (operand_under p (Arg.Register place slice)) o m ≡ Some (Component.MemoryByte a) → ⊥
-    by (Place.Reg r) e is = let at = rw e at is in cc
-    by (Place.Operand k) e is = let at = rw e at is in cc
+    by (Place.Reg r) e is = let there = rw e at is in cc
+    by (Place.Operand k) e is = let there = rw e at is in cc
 
 write_apart : (p : Placement) (m : Machine) (to : Written) (o a : ℕ) → is_register_write to ≡ true
     → written_byte p m to o ≡ Some (Component.MemoryByte a) → ⊥
@@ -174,9 +173,9 @@ module _ (line : Sym) where
 
   self_registers : (op : Op) → same_register (slice_get line.args 0) (slice_get line.args 1) ≡ true
       → (self_row op (line_row line) ≡ line_row line) ⊎ AreRegisters (self_row op (line_row line))
-  self_registers Op.Xor same = let second = second_register _ _ same in let at = second.2 in inr (rw at refl)
-  self_registers Op.Sub same = let second = second_register _ _ same in let at = second.2 in inr (rw at refl)
-  self_registers Op.Sbb same = let second = second_register _ _ same in let at = second.2 in inr (rw at refl)
+  self_registers Op.Xor same = let second = second_register (slice_get line.args 0) (slice_get line.args 1) same in let at = second.2 in inr (rw at refl)
+  self_registers Op.Sub same = let second = second_register (slice_get line.args 0) (slice_get line.args 1) same in let at = second.2 in inr (rw at refl)
+  self_registers Op.Sbb same = let second = second_register (slice_get line.args 0) (slice_get line.args 1) same in let at = second.2 in inr (rw at refl)
   self_registers op same = inl refl
 
   by_tests : (shift self : Bool)
