@@ -1,19 +1,18 @@
 -- A step changes no byte of memory but of outputs' objects and, where memory is declared, of what no operand owns.
-use Rattle.std.proofs.Common.{◌≡◌, ◌⊎◌, inl, inr, ℕ, zero, suc, ◌+◌, ◌-◌, ◌/◌, ◌%◌, ◌^◌, ◌<◌, ◌≤◌, ◌==◌, ◌&&◌, ◌||◌, nat_lt, nat_le, List, [], ◌∷◌, length, Bool, true, false, Option, None, Some, is_some, slice_get, refl, sym, ap, subst, ◌∙◌, arith}
-use Rattle.std.specs.List.{filter_map}
+use Rattle.std.proofs.Common.{◌≡◌, ◌⊎◌, inl, inr, ℕ, ◌+◌, ◌-◌, ◌/◌, ◌%◌, ◌^◌, ◌<◌, ◌≤◌, ◌&&◌, ◌||◌, nat_lt, nat_le, List, [], ◌∷◌, length, Bool, true, false, Option, None, Some, is_some, slice_get, refl, sym, ap, subst, ◌∙◌, arith}
 use Rattle.std.proofs.lemmas.Bool.{and_parts, and_from, or_cases, le-ltb, lt-ltb, ltb-true, leb-true, eq-eqb, eqb-true, cases_lt}
 use Rattle.asm_core.specs.Lists.{IsMember, count_from}
 use Rattle.asm_core.specs.Entry.{IsEntry, HasObject}
-use Rattle.asm_core.specs.Frame.{InOutputObject, InUnowned, MayWrite}
+use Rattle.asm_core.specs.Frame.{MayWrite}
 use Rattle.asm_core.specs.Function.{bits_of}
 use Rattle.asm_core.specs.Machine.{Layout, reg_in, covers, byte_at, layout_of, layouts_of}
 use Rattle.asm_core.specs.Memory.{address_of, is_open_to, is_good_access}
-use Rattle.asm_core.specs.MicroOps.{first_of, count_of, arg_at, is_good_arg, is_good_target, is_good_op, arg_destination, destination_of}
+use Rattle.asm_core.specs.MicroOps.{first_of, count_of, is_good_arg, is_good_target, arg_destination, destination_of}
 use Rattle.asm_core.specs.Entries.{arg_or_zero, pointed_arg, by_of, write_to_site, write_to, write_of}
 use Rattle.asm_core.specs.Placement.{spot_of, tie_root, is_output}
-use Rattle.asm_core.specs.Reading.Placed.{placed_place, placed_disp, placed_base, placed_index, spot_form, operand_under, operand_at, inst_under}
+use Rattle.asm_core.specs.Reading.Placed.{placed_place, placed_disp, placed_base, placed_index, spot_form, operand_at, inst_under}
 use Rattle.asm_core.specs.Reading.Text as text
-use Rattle.asm_core.specs.RowLaws.{Component, IsHit, LiesAt, IsToldByOne}
+use Rattle.asm_core.specs.RowLaws.{Component, IsHit, IsToldByOne}
 use Rattle.asm_core.specs.Rows.{line_row, entry_row}
 use Rattle.asm_core.specs.Steps.{Stand}
 use Rattle.asm_core.specs.declared.reg.Reg.{Reg}
@@ -29,22 +28,20 @@ use Rattle.asm_core.specs.declared.sym.Place.{Place}
 use Rattle.asm_core.specs.declared.sym.Disp.{Disp}
 use Rattle.asm_core.specs.declared.sym.Arg.{Arg}
 use Rattle.asm_core.specs.declared.sym.Sym.{Sym}
-use Rattle.asm_core.specs.declared.row.Access.{Access}
 use Rattle.asm_core.specs.declared.row.Write.{Write}
 use Rattle.asm_core.specs.declared.micro_op.Bytes.{Bytes}
 use Rattle.asm_core.specs.declared.micro_op.Site.{Site}
 use Rattle.asm_core.specs.declared.micro_op.Target.{Target}
 use Rattle.asm_core.specs.declared.micro_op.Destination.{Destination}
-use Rattle.asm_core.specs.declared.micro_op.MicroOp.{MicroOp}
 use Rattle.asm_core.specs.declared.machine.Range.{Range}
 use Rattle.asm_core.specs.declared.machine.Machine.{Machine}
 use Rattle.asm_core.proofs.PlacedLaws.{steps_as_line}
 use Rattle.asm_core.proofs.ValuesLeft.{good_target}
 use Rattle.x86_table.proofs.EntryLaws.{obeys_table}
 use Rattle.blk_deps.specs.Facts.{Facts}
-use Rattle.blk_deps.specs.Line.{writes_in, accesses_in}
-use Rattle.blk_deps.specs.Operands.{numbers_in, is_output_at, size_at, is_root, has_own_register, has_address, is_operand_place, is_place}
-use Rattle.blk_deps.specs.Rules.{is_written_address, is_of_operand, is_past}
+use Rattle.blk_deps.specs.Line.{writes_in}
+use Rattle.blk_deps.specs.Operands.{numbers_in, size_at, is_root, has_own_register, has_address, is_operand_place, is_place}
+use Rattle.blk_deps.specs.Rules.{is_written_address, is_of_operand}
 use Rattle.blk_deps.specs.declared.fact.Fact.TheVariants.{Here}
 use Rattle.blk_frame.specs.Accepted.{PassesSound}
 use Rattle.blk_frame.specs.Laws.{Holds, IsTableStep, AreStates}
@@ -141,12 +138,15 @@ module _ (i : Interface) (live : List Shape) (s : Shape) (depth : ℕ) (line : S
     owned_by = ap layout_owner at_entry.2
 
     unowned_written : reached.range.owner ≡ None → i.memory ≡ true → May
-    unowned_written none memory = inr (memory, record {
-      range = at_entry.0;
-      is_range = at_entry.1;
-      unowned = owned_by ∙ none;
-      here = covered;
-    })
+    unowned_written none memory = inr (
+      memory,
+      record {
+        range = at_entry.0;
+        is_range = at_entry.1;
+        unowned = owned_by ∙ none;
+        here = covered;
+      },
+    )
 
   -- at an address that is written
   address_written : (to : Arg) (size : ℕ) → is_written_address to ≡ true → IsStored line to size
@@ -215,16 +215,16 @@ module _ (i : Interface) (live : List Shape) (s : Shape) (depth : ℕ) (line : S
     open_written : reached.range.owner ≡ None → May
     open_written none = elim (cases_lt (first + o) place.operand.size) [
       | inl within ↦ inl (record {
-          number = j;
-          operand = place.operand;
-          address = address_of form entry;
-          offset = first + o;
-          object = record { is_operand = place.is_operand; untied = place.untied; in_memory = (form, spot, refl) };
-          output = output place.operand place.is_operand;
-          within = within;
-          here = at ∙ ap (λ v. (v + first + o) % 2 ^ 32) same ∙ ap (λ v. v % 2 ^ 32) (grouped
-              (address_of form entry) first o);
-        })
+        number = j;
+        operand = place.operand;
+        address = address_of form entry;
+        offset = first + o;
+        object = record { is_operand = place.is_operand; untied = place.untied; in_memory = (form, spot, refl) };
+        output = output place.operand place.is_operand;
+        within = within;
+        here = at ∙ ap (λ v. (v + first + o) % 2 ^ 32) same ∙ ap (λ v. v % 2 ^ 32) (grouped
+            (address_of form entry) first o);
+      })
       | inr past ↦ unowned_written (Some j) reached none
           (past_declared i live s depth line facts sound here j stored.access place.number stored.is_access
           (and_from _ _ (ap (is_of_operand j) stored.there ∙ eq-eqb j j refl)

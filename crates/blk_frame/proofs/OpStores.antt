@@ -1,13 +1,13 @@
 -- What a line writes to memory lies within the stores that it is said to make, unless it writes memory in parts.
 use Rattle.std.proofs.Common.{◌≡◌, ◌⊎◌, inl, inr, ℕ, zero, suc, ◌+◌, ◌*◌, ◌/◌, ◌<◌, ◌≤◌, ◌==◌, ◌&&◌, ◌||◌, nat_lt, min, List, [], ◌∷◌, ◌++◌, length, map, Bool, true, false, if◌then◌else◌, Option, None, Some, is_none, slice_get, refl, sym, ap, subst, ◌∙◌, arith}
 use Rattle.std.specs.List.{list_all, filter_map, cons_option}
-use Rattle.std.proofs.lemmas.Bool.{both_ways, and_parts, and_from, or_cases, ltb-true, eq-eqb, eqb-true, cases_eq}
+use Rattle.std.proofs.lemmas.Bool.{both_ways, and_parts, and_from, or_cases, ltb-true, eq-eqb, eqb-true}
 use Rattle.asm_core.specs.Lists.{IsMember}
 use Rattle.asm_core.specs.Reg.{reg_number}
 use Rattle.asm_core.specs.Flag.{flag_number}
 use Rattle.asm_core.specs.Function.{bits_of}
 use Rattle.asm_core.specs.MicroOps.{first_of, count_of, sized}
-use Rattle.asm_core.specs.Entries.{origins, slice_number, slice_with, origin_rank, site_origin, line_arg, pointed_arg, by_of, write_to_site, write_to, write_of, writes_of, count_at, site_count, or_else, touched, target_store, row_access, memory_arg, memory_in, access_by, access_at, accesses_of}
+use Rattle.asm_core.specs.Entries.{origins, slice_number, slice_with, origin_rank, site_origin, line_arg, pointed_arg, by_of, write_to, write_of, count_at, site_count, or_else, target_store, row_access, memory_arg, memory_in, access_at, accesses_of}
 use Rattle.asm_core.specs.Table.{row_of, is_shift, self_row}
 use Rattle.asm_core.specs.Table.Bits.{no_shift_row}
 use Rattle.asm_core.specs.Table.Moves.{condition}
@@ -20,10 +20,8 @@ use Rattle.asm_core.specs.declared.inst.Width.{Width}
 use Rattle.asm_core.specs.declared.inst.Repeat.{Repeat}
 use Rattle.asm_core.specs.declared.sym.Arg.{Arg}
 use Rattle.asm_core.specs.declared.sym.Sym.{Sym}
-use Rattle.asm_core.specs.declared.row.By.{By}
 use Rattle.asm_core.specs.declared.row.Access.{Access}
 use Rattle.asm_core.specs.declared.row.Write.{Write}
-use Rattle.asm_core.specs.declared.row.Written.{Written}
 use Rattle.asm_core.specs.declared.micro_op.Bytes.{Bytes}
 use Rattle.asm_core.specs.declared.micro_op.Function.{Function}
 use Rattle.asm_core.specs.declared.micro_op.Origin.{Origin}
@@ -31,10 +29,9 @@ use Rattle.asm_core.specs.declared.micro_op.Site.{Site}
 use Rattle.asm_core.specs.declared.micro_op.Input.{Input}
 use Rattle.asm_core.specs.declared.micro_op.Target.{Target}
 use Rattle.asm_core.specs.declared.micro_op.MicroOp.{MicroOp}
-use Rattle.blk_deps.specs.Line.{writes_in, accesses_in}
 use Rattle.blk_frame.specs.Stores.{IsStored, IsWithin, IsStoredWhole, StoresWhole, parted, PartsNoMemory}
 use Rattle.blk_frame.proofs.Basics.{same_some}
-use Rattle.blk_frame.proofs.Members.{in_front, in_back}
+use Rattle.blk_frame.proofs.Members.{in_back}
 
 -- ---- rows that write no memory in parts
 

@@ -1,6 +1,6 @@
 -- Where an instruction breaks no rule, its stores are to outputs, its memory operands are reached while nothing is
 -- pushed, and memory that is no operand's is declared.
-use Rattle.std.proofs.Common.{◌≡◌, inl, inr, ℕ, ◌==◌, ◌&&◌, ◌||◌, not, Bool, true, false, List, [], ◌∷◌, ◌++◌, refl, sym, ap, subst, ◌∙◌}
+use Rattle.std.proofs.Common.{◌≡◌, inl, ℕ, ◌==◌, ◌&&◌, ◌||◌, not, Bool, true, false, List, [], ◌∷◌, ◌++◌, refl, ap, ◌∙◌}
 use Rattle.std.specs.List.{list_any}
 use Rattle.std.proofs.lemmas.Bool.{both_ways, and_from, or_left, or_right, or_parts, false_from_ne_true, true_from_ne_false, not_from_false, eq-eqb, eqb-true}
 use Rattle.asm_core.specs.Lists.{IsMember}

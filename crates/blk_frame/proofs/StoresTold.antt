@@ -1,23 +1,21 @@
 -- A byte of memory that a step changes is reached by a good access, which the row that tells the line's entries has too.
-use Rattle.std.proofs.Common.{◌≡◌, ◌⊎◌, inl, inr, ℕ, zero, suc, ◌+◌, ◌%◌, ◌^◌, ◌<◌, ◌&&◌, ◌||◌, not, List, [], ◌∷◌, length, Bool, true, false, if◌then◌else◌, Option, None, Some, slice_get, refl, sym, ap, subst, ◌∙◌, arith}
+use Rattle.std.proofs.Common.{◌≡◌, ◌⊎◌, inl, inr, ℕ, zero, suc, ◌+◌, ◌%◌, ◌^◌, ◌<◌, ◌&&◌, not, List, [], ◌∷◌, length, Bool, true, false, if◌then◌else◌, Option, Some, slice_get, refl, subst, arith}
 use Rattle.std.specs.List.{list_any, list_all}
-use Rattle.std.proofs.lemmas.Bool.{both_ways, and_parts, or_cases, cases_Bool}
+use Rattle.std.proofs.lemmas.Bool.{both_ways, and_parts, or_cases}
 use Rattle.asm_core.specs.Lists.{IsMember}
 use Rattle.asm_core.specs.Machine.{covers, byte_at}
 use Rattle.asm_core.specs.Memory.{is_open_to, lets_in, in_scratch, is_good_byte, is_good_access}
-use Rattle.asm_core.specs.MicroOps.{destination_of, destinations_of, is_good_op, is_over, values_of, read_in, row_ended, next_of, put_all, written}
-use Rattle.asm_core.specs.Entries.{arg_or_zero, line_arg, writes_of}
+use Rattle.asm_core.specs.MicroOps.{destination_of, destinations_of, is_good_op, is_over, values_of, row_ended}
+use Rattle.asm_core.specs.Entries.{writes_of}
 use Rattle.asm_core.specs.Reading.Placed.{placed_place, operand_under, inst_under}
-use Rattle.asm_core.specs.RowLaws.{HoldsAfter, Component, component_in, IsHit, IsHitByOne, operand_byte, written_byte, IsToldByOne}
-use Rattle.asm_core.specs.Rows.{is_zero_count, same_place, same_register, line_row, entry_row}
+use Rattle.asm_core.specs.RowLaws.{HoldsAfter, Component, IsHit, IsHitByOne, operand_byte, written_byte, IsToldByOne}
+use Rattle.asm_core.specs.Rows.{is_zero_count, same_register, line_row, entry_row}
 use Rattle.asm_core.specs.Table.{is_shift, self_row}
 use Rattle.asm_core.specs.Table.Bits.{no_shift_row}
 use Rattle.asm_core.specs.Steps.{Stand, reads_at}
-use Rattle.asm_core.specs.declared.reg.Reg.{Reg}
 use Rattle.asm_core.specs.declared.reg.Slice.{Slice}
 use Rattle.asm_core.specs.declared.inst.Op.{Op}
 use Rattle.asm_core.specs.declared.inst.Inst.{Inst}
-use Rattle.asm_core.specs.declared.inst.InstArg.{InstArg}
 use Rattle.asm_core.specs.declared.sym.Place.{Place}
 use Rattle.asm_core.specs.declared.sym.Arg.{Arg}
 use Rattle.asm_core.specs.declared.sym.Sym.{Sym}
@@ -55,7 +53,7 @@ byte_reached : (m : Machine) (through : Option ℕ) (store : Bool) (a : ℕ) →
     → IsReached m through a
 byte_reached m through store a good =
     let found = range_in (lets_in through store a) m.ranges
-        (and_parts (list_any (lets_in through store a) m.ranges) (not (in_scratch m a)) good).0 in
+    (and_parts (list_any (lets_in through store a) m.ranges) (not (in_scratch m a)) good).0 in
     let first = (and_parts (covers found.0 a && is_open_to found.0.owner through) _ found.2).0 in
     let both = and_parts (covers found.0 a) (is_open_to found.0.owner through) first in
     record { range = found.0; is_range = found.1; here = both.0; open_to = both.1 }
