@@ -319,7 +319,8 @@ module _ (i : Interface) (live : List Shape) (s : Shape) (depth : ℕ) (line : S
       (access_reached x.before None true (bits_of line.width / 8) (reg_in r x.before) hit.0 good hit.1))
 
   stored_may : entry_row line ≡ line_row line → IsStoredBy (inst_under x.at line) x.before (line_row line) a → May
-  stored_may own by_op = by by_op.op.target refl by_op.hit (good_target (inst_under x.at line) x.before by_op.op by_op.good)
+  stored_may own by_op = by by_op.op.target refl by_op.hit
+      (good_target (inst_under x.at line) x.before by_op.op by_op.good)
     where
       -- what the micro-operation writes, the line writes
       written : (w : Write) → write_of line by_op.op ≡ Some w → IsStoredWhole line w.to (w.first + w.count)

@@ -356,7 +356,8 @@ module _ (s : Sym) (whole : are_whole s (entry_row s) ≡ true) where
         → memory_arg (line_arg s k) ≡ Some to → IsStored s to (first_of bytes + count_of s.width bytes)
     argument_stored k bytes to at there =
         subst (λ b. IsStored s to (first_of b + count_of s.width b)) (sym (all bytes (or_cases _ _ parts.1)))
-        (subst (IsStored s to) (from_zero (count_of s.width Bytes.Whole)) (stored_at s (entry_row s) refl (Origin.Argument k) to (count_of s.width Bytes.Whole) (argument_origin k low)
+        (subst (IsStored s to) (from_zero (count_of s.width Bytes.Whole))
+        (stored_at s (entry_row s) refl (Origin.Argument k) to (count_of s.width Bytes.Whole) (argument_origin k low)
         there (row_stores s s.width (Origin.Argument k) (count_of s.width Bytes.Whole) (count_of s.width bytes)
         (entry_row s) op whole (argument_count s s.width k to low there) member
         (ap (target_store s.width (Origin.Argument k)) at ∙ rank_itself s.width (Site.Argument k bytes)))))

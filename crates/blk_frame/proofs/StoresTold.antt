@@ -1,4 +1,4 @@
--- A byte of memory that a step changes is reached by a good access, which the row that tells the line's entries has too.
+-- A byte of memory that a step changes is reached by a good access of the row that tells the line's entries.
 use Rattle.std.proofs.Common.{◌≡◌, ◌⊎◌, inl, inr, ℕ, zero, suc, ◌+◌, ◌%◌, ◌^◌, ◌<◌, ◌&&◌, not, List, [], ◌∷◌, length, Bool, true, false, if◌then◌else◌, Option, Some, slice_get, refl, subst, arith}
 use Rattle.std.specs.List.{list_any, list_all}
 use Rattle.std.proofs.lemmas.Bool.{both_ways, and_parts, or_cases}
@@ -171,9 +171,15 @@ module _ (line : Sym) where
 
   self_registers : (op : Op) → same_register (slice_get line.args 0) (slice_get line.args 1) ≡ true
       → (self_row op (line_row line) ≡ line_row line) ⊎ AreRegisters (self_row op (line_row line))
-  self_registers Op.Xor same = let second = second_register (slice_get line.args 0) (slice_get line.args 1) same in let at = second.2 in inr (rw at refl)
-  self_registers Op.Sub same = let second = second_register (slice_get line.args 0) (slice_get line.args 1) same in let at = second.2 in inr (rw at refl)
-  self_registers Op.Sbb same = let second = second_register (slice_get line.args 0) (slice_get line.args 1) same in let at = second.2 in inr (rw at refl)
+  self_registers Op.Xor same =
+      let second = second_register (slice_get line.args 0) (slice_get line.args 1) same in
+      let there = second.2 in inr (rw there refl)
+  self_registers Op.Sub same =
+      let second = second_register (slice_get line.args 0) (slice_get line.args 1) same in
+      let there = second.2 in inr (rw there refl)
+  self_registers Op.Sbb same =
+      let second = second_register (slice_get line.args 0) (slice_get line.args 1) same in
+      let there = second.2 in inr (rw there refl)
   self_registers op same = inl refl
 
   by_tests : (shift self : Bool)
