@@ -104,27 +104,8 @@ is_plain Repeat.Rep n = n == 0
 is_plain Repeat.Repe n = n == 0
 is_plain Repeat.Repne n = n == 0
 
--- nothing is pushed or popped there
-abbrev pub is_level : Target → Bool
-is_level Target.Push = false
-is_level Target.Pop = false
-is_level target = true
-
-abbrev pub are_level : List MicroOp → Bool
-are_level row = list_all (λ (op : MicroOp). is_level op.target) row
-
--- a repeated instruction doesn't push or pop
-abbrev pub keeps_stack : Repeat → List MicroOp → Bool
-keeps_stack Repeat.No row = true
-keeps_stack Repeat.Rep row = are_level row
-keeps_stack Repeat.Repe row = are_level row
-keeps_stack Repeat.Repne row = are_level row
-
-abbrev pub row_fits : Width → List (Option Slot) → Repeat → List MicroOp → Bool
-row_fits w slots repeat row = keeps_stack repeat row && list_all (op_has w slots) row
-
 abbrev pub repeat_has : NameRow → Width → Op → Repeat → Bool
-repeat_has r w op repeat = is_plain repeat (operand_count r.slots) && row_fits w r.slots repeat (repeated repeat (row_of op w (operand_count r.slots)))
+repeat_has r w op repeat = is_plain repeat (operand_count r.slots) && list_all (op_has w r.slots) (repeated repeat (row_of op w (operand_count r.slots)))
 
 abbrev pub width_has : NameRow → Width → Bool
 width_has r w = not (may_be r w) || list_all (λ op. list_all (repeat_has r w op) (repeats_of r)) (operations_of r.operation)

@@ -41,16 +41,16 @@ use Rattle.asm_core.specs.declared.reg.Slice.{Slice}
 use Rattle.asm_core.specs.declared.sym.Disp.{Disp}
 use Rattle.asm_core.specs.declared.sym.Sym.{Sym}
 use Rattle.x86_table.specs.TableLaws.{IsPlain, HasArg, HasSite, HasTarget, HasInput, HasOperands}
-use Rattle.x86_table.proofs.NamesCheck.{has_bytes, class_has, widths, classes, place_has, site_has, target_has, input_has, op_has, conditions, operations_of, may_be, repeats_of, operand_count, is_plain, are_level, keeps_stack, row_fits, repeat_has, width_has, row_has, names_have}
+use Rattle.x86_table.proofs.NamesCheck.{has_bytes, class_has, widths, classes, place_has, site_has, target_has, input_has, op_has, conditions, operations_of, may_be, repeats_of, operand_count, is_plain, repeat_has, width_has, row_has, names_have}
 
 -- ---- lists and tests
 
-all_at : {A : Type 0} (p : A → Bool) (x : A) (xs : List A) → list_all p xs ≡ true → IsMember x xs → p x ≡ true
+pub all_at : {A : Type 0} (p : A → Bool) (x : A) (xs : List A) → list_all p xs ≡ true → IsMember x xs → p x ≡ true
 all_at p x [] all member = absurd member
 all_at p x (y ∷ ys) all (inl same) = ap p same ∙ (and_parts (p y) (list_all p ys) all).0
 all_at p x (y ∷ ys) all (inr member) = all_at p x ys (and_parts (p y) (list_all p ys) all).1 member
 
-implied : (a b : Bool) → (not a || b) ≡ true → a ≡ true → b ≡ true
+pub implied : (a b : Bool) → (not a || b) ≡ true → a ≡ true → b ≡ true
 implied true b e h = e
 implied false b e h = cc
 
@@ -66,7 +66,7 @@ mapped_member f x (y ∷ ys) (inr member) = inr (mapped_member f x ys member)
 
 -- ---- all of a kind
 
-width_there : (w : Width) → IsMember w widths
+pub width_there : (w : Width) → IsMember w widths
 width_there Width.B = inl refl
 width_there Width.W = inr (inl refl)
 width_there Width.L = inr (inr (inl refl))
@@ -338,49 +338,49 @@ plain_there count l n counted e = by l.repeat refl e
     by Repeat.Repe h e = inr (none_left l.operands count (counted ∙ eqb-true n 0 e))
     by Repeat.Repne h e = inr (none_left l.operands count (counted ∙ eqb-true n 0 e))
 
--- A line of the table's names has the operands of its row, and is plain. Repeated it doesn't push or pop.
+-- A line as the table of names has it: its operation, its size, its operands and its prefix are ones of a row.
+pub record IsOfRow (l : Line) : Type 0 where
+  pub choice : Choice
+  pub chosen : IsChosen (map class_of l.operands) choice
+  pub op : l.op ≡ choice.op
+  pub width : l.width ≡ choice.width
+  pub repeat : IsMember l.repeat (repeats_of choice.row)
+
+-- A line of the table's names has the operands of its row, and is plain.
 pub record FitsTable (s : Sym) : Type 0 where
   pub operands : HasOperands s (line_row s)
   pub plain : IsPlain s
-  pub level : (s.repeat ≡ Repeat.No → ⊥) → are_level (line_row s) ≡ true
 
-level_there : (repeat : Repeat) (row : List MicroOp) → keeps_stack repeat row ≡ true → (repeat ≡ Repeat.No → ⊥) → are_level row ≡ true
-level_there Repeat.No row e other = absurd (other refl)
-level_there Repeat.Rep row e other = e
-level_there Repeat.Repe row e other = e
-level_there Repeat.Repne row e other = e
+-- how many operands it has
+pub operands_counted : (l : Line) (c : Choice) → IsChosen (map class_of l.operands) c → length l.operands ≡ operand_count c.row.slots
+operands_counted l c chosen = counted (length l.operands) c.width c.row.slots l.operands chosen.stand
 
-line_fits : (count : ℕ) (l : Line) (c : Choice) → IsChosen (map class_of l.operands) c → l.op ≡ c.op → l.width ≡ c.width → IsMember l.repeat (repeats_of c.row) → FitsTable (sym_of count l)
-line_fits count l c chosen op width member = record {
-  operands = subst (HasOperands (sym_of count l)) is_row has;
-  plain = plain_there count l (operand_count c.row.slots) number both.0;
-  level = λ other. subst (λ row. are_level row ≡ true) is_row (level_there l.repeat made parts.0 other);
-}
+pub line_fits : (count : ℕ) (l : Line) → IsOfRow l → FitsTable (sym_of count l)
+line_fits count l of_row = record { operands = subst (HasOperands (sym_of count l)) is_row has; plain = plain_there count l (operand_count c.row.slots) number both.0 }
   where
+    c : Choice
+    c = of_row.choice
+
     stand : all_stand l.width c.row.slots (map class_of l.operands) ≡ true
-    stand = subst (λ w. all_stand w c.row.slots (map class_of l.operands) ≡ true) (sym width) chosen.stand
+    stand = subst (λ w. all_stand w c.row.slots (map class_of l.operands) ≡ true) (sym of_row.width) of_row.chosen.stand
 
     row : row_has c.row ≡ true
-    row = all_at row_has c.row names names_have chosen.there
+    row = all_at row_has c.row names names_have of_row.chosen.there
 
     sized : list_all (λ x. list_all (repeat_has c.row l.width x) (repeats_of c.row)) (operations_of c.row.operation) ≡ true
-    sized = implied (may_be c.row l.width) _ (all_at (width_has c.row) l.width widths row (width_there l.width)) (subst (λ w. may_be c.row w ≡ true) (sym width) chosen.width)
+    sized = implied (may_be c.row l.width) _ (all_at (width_has c.row) l.width widths row (width_there l.width)) (subst (λ w. may_be c.row w ≡ true) (sym of_row.width) of_row.chosen.width)
 
     made : List MicroOp
     made = repeated l.repeat (row_of l.op l.width (operand_count c.row.slots))
 
-    both : (is_plain l.repeat (operand_count c.row.slots) ≡ true) × (row_fits l.width c.row.slots l.repeat (repeated l.repeat (row_of l.op l.width (operand_count c.row.slots))) ≡ true)
+    both : (is_plain l.repeat (operand_count c.row.slots) ≡ true) × (list_all (op_has l.width c.row.slots) (repeated l.repeat (row_of l.op l.width (operand_count c.row.slots))) ≡ true)
     both =
         and_parts _ _
         (all_at (repeat_has c.row l.width l.op) l.repeat (repeats_of c.row)
-        (all_at (λ x. list_all (repeat_has c.row l.width x) (repeats_of c.row)) l.op (operations_of c.row.operation) sized (subst (λ x. IsMember x (operations_of c.row.operation)) (sym op) chosen.operation)) member)
-
-    parts : (keeps_stack l.repeat (repeated l.repeat (row_of l.op l.width (operand_count c.row.slots))) ≡ true)
-        × (list_all (op_has l.width c.row.slots) (repeated l.repeat (row_of l.op l.width (operand_count c.row.slots))) ≡ true)
-    parts = and_parts _ _ both.1
+        (all_at (λ x. list_all (repeat_has c.row l.width x) (repeats_of c.row)) l.op (operations_of c.row.operation) sized (subst (λ x. IsMember x (operations_of c.row.operation)) (sym of_row.op) of_row.chosen.operation)) of_row.repeat)
 
     number : length l.operands ≡ operand_count c.row.slots
-    number = counted count l.width c.row.slots l.operands stand
+    number = operands_counted l c of_row.chosen
 
     is_row : repeated l.repeat (row_of l.op l.width (operand_count c.row.slots)) ≡ line_row (sym_of count l)
     is_row = ap (λ n. repeated l.repeat (row_of l.op l.width n)) (sym number ∙ sym (length-map l.operands (arg_of count)))
@@ -388,39 +388,39 @@ line_fits count l c chosen op width member = record {
     has : HasOperands (sym_of count l) (repeated l.repeat (row_of l.op l.width (operand_count c.row.slots)))
     has =
         operands_there (sym_of count l) c.row.slots (λ bytes k e. place_there count l.width bytes k c.row.slots l.operands stand e)
-        (repeated l.repeat (row_of l.op l.width (operand_count c.row.slots))) parts.1
+        (repeated l.repeat (row_of l.op l.width (operand_count c.row.slots))) both.1
 
-read_with : (count : ℕ) (c : Choice) (os : List LineOperand) (place : ℕ) (before : List Prefix) (p : Option Prefixed) (l : Line) → IsChosen (map class_of os) c → prefixes_fit c.row (map class_of os) before ≡ p
-    → line_with c os place p ≡ Reading.Read l → FitsTable (sym_of count l)
-read_with count c os place before None l chosen h e = cc
-read_with count c os place before (Some p) l chosen h e = by c.row.left_out e
+read_with : (c : Choice) (os : List LineOperand) (place : ℕ) (before : List Prefix) (p : Option Prefixed) (l : Line) → IsChosen (map class_of os) c → prefixes_fit c.row (map class_of os) before ≡ p
+    → line_with c os place p ≡ Reading.Read l → IsOfRow l
+read_with c os place before None l chosen h e = cc
+read_with c os place before (Some p) l chosen h e = by c.row.left_out e
   where
     made : Line
     made = record { op = c.op; width = c.width; operands = os; repeat = p.repeat; lock = p.lock; place = place }
 
-    by : (b : Bool) → (if b then Reading.LeftOut else Reading.Read made) ≡ Reading.Read l → FitsTable (sym_of count l)
+    by : (b : Bool) → (if b then Reading.LeftOut else Reading.Read made) ≡ Reading.Read l → IsOfRow l
     by true e = cc
     by false e =
         let same : made ≡ l = cc in
-        subst (λ (x : Line). FitsTable (sym_of count x)) same (line_fits count made c chosen refl refl (repeat_there c.row (map class_of os) before p h))
+        subst IsOfRow same (record { choice = c; chosen = chosen; op = refl; width = refl; repeat = repeat_there c.row (map class_of os) before p h })
 
-read_chosen : (count : ℕ) (os : List LineOperand) (place : ℕ) (before : List Prefix) (name : List ℕ) (c : Option Choice) (l : Line) → choice_of names name (map class_of os) ≡ c
-    → line_chosen before os place c ≡ Reading.Read l → FitsTable (sym_of count l)
-read_chosen count os place before name None l h e = cc
-read_chosen count os place before name (Some c) l h e = read_with count c os place before (prefixes_fit c.row (map class_of os) before) l (chosen_there name (map class_of os) c h) refl e
+read_chosen : (os : List LineOperand) (place : ℕ) (before : List Prefix) (name : List ℕ) (c : Option Choice) (l : Line) → choice_of names name (map class_of os) ≡ c
+    → line_chosen before os place c ≡ Reading.Read l → IsOfRow l
+read_chosen os place before name None l h e = cc
+read_chosen os place before name (Some c) l h e = read_with c os place before (prefixes_fit c.row (map class_of os) before) l (chosen_there name (map class_of os) c h) refl e
 
-read_operands : (count : ℕ) (before : List Prefix) (name : List ℕ) (place : ℕ) (os : Option (List LineOperand)) (l : Line) → line_of_operands names before name place os ≡ Reading.Read l → FitsTable (sym_of count l)
-read_operands count before name place None l e = cc
-read_operands count before name place (Some os) l e = read_chosen count os place before name (choice_of names name (map class_of os)) l refl e
+read_operands : (before : List Prefix) (name : List ℕ) (place : ℕ) (os : Option (List LineOperand)) (l : Line) → line_of_operands names before name place os ≡ Reading.Read l → IsOfRow l
+read_operands before name place None l e = cc
+read_operands before name place (Some os) l e = read_chosen os place before name (choice_of names name (map class_of os)) l refl e
 
-read_if : (count : ℕ) (before : List Prefix) (name : List ℕ) (place : ℕ) (os : Option (List LineOperand)) (b : Bool) (l : Line) → (if b then line_of_operands names before name place os else Reading.Unread) ≡ Reading.Read l → FitsTable (sym_of count l)
-read_if count before name place os true l e = read_operands count before name place os l e
-read_if count before name place os false l e = cc
+read_if : (before : List Prefix) (name : List ℕ) (place : ℕ) (os : Option (List LineOperand)) (b : Bool) (l : Line) → (if b then line_of_operands names before name place os else Reading.Unread) ≡ Reading.Read l → IsOfRow l
+read_if before name place os true l e = read_operands before name place os l e
+read_if before name place os false l e = cc
 
--- Each instruction that is read has the operands that its row asks for.
-pub read_fits : (count : ℕ) (goal : List ℕ → Option (Option ℕ)) (before : List Prefix) (place : ℕ) (xs : List Atom) (l : Line) → line_of names goal before place xs ≡ Reading.Read l → FitsTable (sym_of count l)
+-- Each instruction that is read is of a row of the table.
+pub read_of_row : (goal : List ℕ → Option (Option ℕ)) (before : List Prefix) (place : ℕ) (xs : List Atom) (l : Line) → line_of names goal before place xs ≡ Reading.Read l → IsOfRow l
 unfolding line_of line_at
-read_fits count goal before place xs l e =
+read_of_row goal before place xs l e =
     let n = name_len (map atom_code xs) in
-    read_if count before (take n (map atom_code xs)) place (all_some (operands_of goal (trimmed (drop n xs))))
+    read_if before (take n (map atom_code xs)) place (all_some (operands_of goal (trimmed (drop n xs))))
     ((length xs == n) || is_blank (slice_index (map atom_code xs) n)) l e
