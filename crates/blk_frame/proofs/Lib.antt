@@ -32,3 +32,4 @@ pub mod StoreRules
 pub mod OpStores
 pub mod StoresTold
 pub mod MemoryKept
+pub mod PartsRead
