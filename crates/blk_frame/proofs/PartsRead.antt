@@ -1,28 +1,39 @@
 -- No line of the table of names writes memory in parts.
-use Rattle.std.proofs.Common.{◌≡◌, inl, inr, ℕ, zero, suc, not, List, [], ◌∷◌, map, Bool, true, false, Option, None, Some, slice_get, refl, sym, ap, subst, ◌∙◌}
+use Rattle.std.proofs.Common.{◌≡◌, ℕ, zero, suc, not, List, [], ◌∷◌, map, Bool, true, Option, None, Some, slice_get, refl, sym, ap, subst, ◌∙◌}
 use Rattle.std.specs.List.{list_all}
 use Rattle.std.proofs.lemmas.Bool.{both_ways, and_parts, not_from_true}
 use Rattle.asm_core.specs.Entries.{arg_or_zero, line_arg, memory_arg}
-use Rattle.asm_core.specs.Lists.{IsMember}
-use Rattle.asm_core.specs.Reading.Chosen.{Class, allows_memory, class_of, slot_allows, all_stand}
+use Rattle.asm_core.specs.Reading.Chosen.{allows_memory, class_of, slot_allows, all_stand}
 use Rattle.asm_core.specs.Reading.Line.{arg_of, sym_of}
 use Rattle.asm_core.specs.Reading.Names.{names}
+use Rattle.asm_core.specs.declared.cond.Cond.{Cond}
 use Rattle.asm_core.specs.declared.inst.Op.{Op}
 use Rattle.asm_core.specs.declared.inst.Width.{Width}
 use Rattle.asm_core.specs.declared.names.NameRow.{NameRow}
+use Rattle.asm_core.specs.declared.names.Operation.{Operation}
 use Rattle.asm_core.specs.declared.names.Slot.{Slot}
 use Rattle.asm_core.specs.declared.reading.Line.{Line}
 use Rattle.asm_core.specs.declared.reading.LineOperand.{LineOperand}
 use Rattle.asm_core.specs.declared.sym.Disp.{Disp}
-use Rattle.asm_core.specs.declared.sym.Arg.{Arg}
 use Rattle.asm_core.specs.declared.sym.Sym.{Sym}
 use Rattle.x86_table.proofs.LinesFit.{IsOfTable}
-use Rattle.x86_table.proofs.NamesCheck.{operations_of}
 use Rattle.x86_table.proofs.NamesFit.{IsOfRow, all_at}
 use Rattle.blk_frame.specs.Stores.{StoresWhole, parted, PartsNoMemory}
 use Rattle.blk_frame.proofs.OpStores.{stores_whole}
 
 -- ---- the table
+
+-- what a spelling may stand for, as x86_table's NamesCheck has it, which it shows to no other crate
+abbrev conditions : List Cond
+conditions =
+    Cond.O ∷ Cond.No ∷ Cond.B ∷ Cond.Ae ∷ Cond.E ∷ Cond.Ne ∷ Cond.Be ∷ Cond.A ∷ Cond.S ∷ Cond.Ns ∷ Cond.P ∷ Cond.Np
+    ∷ Cond.L ∷ Cond.Ge ∷ Cond.Le ∷ Cond.G ∷ []
+
+abbrev operations_of : Operation → List Op
+operations_of (Operation.Of op) = op ∷ []
+operations_of Operation.Cmov = map Op.Cmov conditions
+operations_of Operation.Set = map Op.Set conditions
+operations_of Operation.Jump = map Op.J conditions
 
 abbrev is_no_memory : Option (Option Slot) → Bool
 is_no_memory (Some (Some slot)) = not (allows_memory slot.allowed)
