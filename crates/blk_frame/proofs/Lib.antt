@@ -28,9 +28,8 @@ pub mod PathRules
 pub mod Turns
 pub mod Repeats
 pub mod StackKept
-pub mod LineEnds
-pub mod LayoutsKept
-pub mod WayThere
-pub mod StackMoves
-pub mod DepthsThere
-pub mod MachineKept
+pub mod StoreRules
+pub mod OpStores
+pub mod StoresTold
+pub mod MemoryKept
+pub mod PartsRead

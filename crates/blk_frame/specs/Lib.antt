@@ -4,3 +4,4 @@ pub mod Shown
 pub mod Lines
 pub mod Laws
 pub mod Accepted
+pub mod Stores
