@@ -44,17 +44,16 @@ use Rattle.blk_deps.specs.StackTable.{IsSound}
 use Rattle.blk_deps.specs.Ways.{IsGraph, line_number}
 use Rattle.blk_deps.specs.declared.violation.Violation.{Violation}
 use Rattle.blk_frame.specs.Accepted.{NoneBroken, IsShapeOf}
+use Rattle.blk_frame.specs.Read.{LineFits}
 use Rattle.blk_frame.proofs.BlockRuns.{framed}
-use Rattle.blk_frame.proofs.JumpsOnce.{jumps_once}
 use Rattle.blk_frame.proofs.Members.{in_front, in_back, in_map}
 use Rattle.blk_frame.proofs.ReadLines.{line_fits}
 use Rattle.blk_frame.proofs.SettingsThere.{settings_there}
 use Rattle.blk_frame.proofs.Stable.{framed_unless}
-use Rattle.blk_frame.proofs.ReadLines.{LineFits}
 use Rattle.blk_text.proofs.CodeThere.{code_there, code_unless}
 use Rattle.blk_text.proofs.KeptU2.{keeps_u2}
 use Rattle.blk_text.specs.Text.{placed_code}
-use Rattle.x86_table.proofs.LinesFit.{IsOfTableIfRead, fits_table, lines_fit}
+use Rattle.x86_table.proofs.LinesFit.{IsOfTableIfRead, lines_fit}
 use Rattle.blk_check.specs.Proven.{Proven}
 use Rattle.blk_check.specs.declared.verdict.Verdict.{Verdict}
 use Rattle.blk_check.specs.Judged.{IsVerdict, IsInterfaceOf, IsProof}
@@ -146,10 +145,10 @@ module _ (s : Statement) (i : Interface) (interface : IsInterface i) (of : IsInt
     lines_there n line e =
         let read = read_at n line e in
         let of_table = at_place IsOfTableIfRead u.lines.insts n (Some line) (lines_fit i shape (pieces_in s.body) u.lines u.under) read in
-        line_fits i shape p line interface
+        line_fits i shape p line
         (at_place (IsFit i shape p) u.graph.insts n line
         (insts_fit i shape interface p (is_lettered i shape p allowed) names (pieces_in s.body) u.lines u.graph.insts u.under (sym u.of_lines.lines)) e)
-        (fits_table line of_table) (jumps_once line of_table)
+        of_table
 
     abbrev setting : List ℕ → (ℕ → ℕ → Bool) → Setting
     setting depths shares = record { interface = i; live = c.live; shape = shape; graph = u.graph; depths = depths; shares = shares }

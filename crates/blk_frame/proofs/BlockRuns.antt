@@ -43,6 +43,7 @@ use Rattle.blk_deps.proofs.StackLemmas.{path_within}
 use Rattle.blk_text.specs.Text.{placed_code}
 use Rattle.blk_frame.specs.Accepted.{NoneBroken, EndsSound, PassesSound, IsShapeOf, facts_on}
 use Rattle.blk_frame.specs.Laws.{Holds, IsTableStep, AreStates, FactsHold}
+use Rattle.blk_frame.specs.Read.{LineFits}
 use Rattle.blk_frame.specs.Shown.{placed_by}
 use Rattle.blk_frame.proofs.DepthsThere.{depth_start, depth_few, depth_room, depth_pop, depth_on, depth_end}
 use Rattle.blk_frame.proofs.DirectionKept.{direction_after, direction_turn, direction_end}
@@ -52,7 +53,6 @@ use Rattle.blk_frame.proofs.FlagsKept.{flags_kept}
 use Rattle.blk_frame.proofs.LayoutsKept.{layouts_kept}
 use Rattle.blk_frame.proofs.MachineKept.{machine_kept}
 use Rattle.blk_frame.proofs.MemoryKept.{memory_kept}
-use Rattle.blk_frame.proofs.ReadLines.{LineFits}
 use Rattle.blk_frame.proofs.RegistersKept.{registers_kept}
 use Rattle.blk_frame.proofs.RunInduction.{runs_in}
 use Rattle.blk_frame.proofs.StackMoves.{depth_behind, repeat_rests, stack_moves}
@@ -137,7 +137,7 @@ module _ (x : Setting) (graphs : List Graph) (number : ℕ) (is : IsShapeOf x gr
     stands = inl (record {
       to = refl;
       known = record {
-        depth = start.nothing_pushed ∙ sym (depth_start x.graph graph sound x.depths is.setting.depths);
+        depth = start.nothing_pushed ∙ sym (depth_start x.graph sound x.depths is.setting.depths);
         holds = table_facts_held.start x.interface x.live x.shape p entry;
         direction = λ set. absurd (both_ways (flag_in Flag.Df entry.flags) start.direction set);
       };
@@ -160,7 +160,7 @@ module _ (x : Setting) (graphs : List Graph) (number : ℕ) (is : IsShapeOf x gr
       (memory : (a : ℕ) → (MayWrite x.interface x.shape p entry a → ⊥) → byte_at m.ranges a ≡ byte_at entry.ranges a)
       (choice : ℕ) (words : List ℕ) (next : Machine)
       (step : IsAfter (row_step (inst_under p line) (slice_index x.graph.goals n) choice words m) next) where
-    stand : Stand
+    abbrev stand : Stand
     stand = record { at = p; before = m; choice = choice; words = words; goal = slice_index x.graph.goals n; after = next }
 
     fits : LineFits x.interface x.shape p line
@@ -180,14 +180,14 @@ module _ (x : Setting) (graphs : List Graph) (number : ℕ) (is : IsShapeOf x gr
       };
       copies = fits.copies;
       at_depth = depth;
-      few = depth_few x.graph graph sound x.depths is.setting.depths path n to;
-      room = λ push. depth_room x.graph graph sound x.depths is.setting.depths path n line to here push;
+      few = depth_few x.graph sound x.depths is.setting.depths path n to;
+      room = λ push. depth_room x.graph sound x.depths is.setting.depths path n line to here push;
     }
 
     moves : (next.scratch_top ≡ depth_behind line (slice_index x.depths n))
         × ((next.esp + 4 * next.scratch_top) % 2 ^ 32 ≡ (m.esp + 4 * m.scratch_top) % 2 ^ 32)
     moves = stack_moves x.interface x.shape (slice_index x.depths n) line stand table_step
-        (λ pop. depth_pop x.graph graph sound x.depths is.setting.depths path n line to here pop)
+        (λ pop. depth_pop x.graph sound x.depths is.setting.depths path n line to here pop)
 
     passes : PassesSound x.interface x.live x.shape (slice_index x.depths n) line (facts_on x path)
     passes = table_facts_held.passes x graphs number is none path n line here to
@@ -201,7 +201,7 @@ module _ (x : Setting) (graphs : List Graph) (number : ℕ) (is : IsShapeOf x gr
             let gone : None ≡ Some line = sym (slice_get_past x.graph.insts n le) ∙ here in cc
 
     level : slice_index x.depths n ≡ 0 → m.esp ≡ entry.esp
-    level zero = let small = machine.esp in let top : m.scratch_top ≡ 0 = depth ∙ zero in omega (arith, small, top, stack)
+    level none = let small = machine.esp in let top : m.scratch_top ≡ 0 = depth ∙ none in omega (arith, small, top, stack)
 
     -- wherever the run goes on
     kept_at : (node : ℕ) → next.at ≡ node → (behind : List ℕ) → Comes x p entry node behind next ⊎ Turns x p entry node behind next
@@ -216,7 +216,7 @@ module _ (x : Setting) (graphs : List Graph) (number : ℕ) (is : IsShapeOf x gr
       stack = moves.1 ∙ stack;
       memory = λ a may.
           memory_kept x.interface x.live x.shape (slice_index x.depths n) line stand entry (facts_on x path) table_step start
-          (record { before = start.machine.regs; now = machine.regs }) layouts passes (here_on x path) known level a may
+          (record { before = start.machine.regs; now = machine.regs }) layouts passes (here_on x path) known level fits.whole a may
           ∙ memory a may;
     }
 
@@ -256,8 +256,8 @@ module _ (x : Setting) (graphs : List Graph) (number : ℕ) (is : IsShapeOf x gr
       went_on way =
           kept_at next.at refl (n ∷ path)
           (inl (record {
-            to = (to, (below, way));
-            known = known next.at (moves.0 ∙ sym (depth_on x.graph graph sound x.depths is.setting.depths path n line to here next.at way));
+            to = (to, below, way);
+            known = known next.at (moves.0 ∙ sym (depth_on x.graph sound x.depths is.setting.depths path n line to here next.at way));
           })) reached
 
       stayed : (line.repeat ≡ Repeat.No → ⊥) → next.at ≡ n → Kept next
@@ -300,9 +300,9 @@ module _ (x : Setting) (graphs : List Graph) (number : ℕ) (is : IsShapeOf x gr
       → IsAfter (row_step i (slice_index x.graph.goals m.at) choice words m) next → Kept next
   each_kept m i choice words next w e step =
       let found = line_there p x.graph.insts m.at i e in
-      step_kept m found.0 choice words next w (subst (λ n. slice_get x.graph.insts n ≡ Some found.0) w.at found.1.0)
+      step_kept m found.0 choice words next w (subst (λ n. slice_get x.graph.insts n ≡ Some found.0) w.at found.1)
       (subst (λ n. IsAfter (row_step (inst_under p found.0) (slice_index x.graph.goals n) choice words m) next) w.at
-      (subst (λ (j : Inst). IsAfter (row_step j (slice_index x.graph.goals m.at) choice words m) next) found.1.1 step))
+      (subst (λ (j : Inst). IsAfter (row_step j (slice_index x.graph.goals m.at) choice words m) next) found.2 step))
 
   -- ---- how a run ends
 
@@ -351,10 +351,10 @@ module _ (x : Setting) (graphs : List Graph) (number : ℕ) (is : IsShapeOf x gr
       values (Location.FlagBit Flag.Sf) may = ap as_number (other_flag Flag.Sf (omega arith) may)
       values (Location.FlagBit Flag.Of) may = ap as_number (other_flag Flag.Of (omega arith) may)
       values Location.Esp may =
-          let zero = known.depth ∙ depth_end x.graph graph sound x.depths is.setting.depths path to in
+          let none_pushed = known.depth ∙ depth_end x.graph sound x.depths is.setting.depths path to in
           let small = w.machine.esp in
           let stack = w.stack in
-          omega (arith, zero, small, stack)
+          omega (arith, none_pushed, small, stack)
 
   ended : (m : Machine) → Kept m → slice_get (map (inst_under p) x.graph.insts) m.at ≡ None → Keeps (MayChange x.interface x.shape p entry) entry m
   ended m w e = by w.stands

@@ -17,23 +17,12 @@ use Rattle.asm_core.specs.declared.reading.LineOperand.{LineOperand}
 use Rattle.asm_core.specs.declared.sym.Disp.{Disp}
 use Rattle.asm_core.specs.declared.sym.Sym.{Sym}
 use Rattle.x86_table.proofs.LinesFit.{IsOfTable}
+use Rattle.x86_table.proofs.NamesCheck.{operations_of}
 use Rattle.x86_table.proofs.NamesFit.{IsOfRow, all_at}
 use Rattle.blk_frame.specs.Stores.{StoresWhole, parted, PartsNoMemory}
 use Rattle.blk_frame.proofs.OpStores.{stores_whole}
 
 -- ---- the table
-
--- what a spelling may stand for, as x86_table's NamesCheck has it, which it shows to no other crate
-abbrev conditions : List Cond
-conditions =
-    Cond.O ∷ Cond.No ∷ Cond.B ∷ Cond.Ae ∷ Cond.E ∷ Cond.Ne ∷ Cond.Be ∷ Cond.A ∷ Cond.S ∷ Cond.Ns ∷ Cond.P ∷ Cond.Np
-    ∷ Cond.L ∷ Cond.Ge ∷ Cond.Le ∷ Cond.G ∷ []
-
-abbrev operations_of : Operation → List Op
-operations_of (Operation.Of op) = op ∷ []
-operations_of Operation.Cmov = map Op.Cmov conditions
-operations_of Operation.Set = map Op.Set conditions
-operations_of Operation.Jump = map Op.J conditions
 
 abbrev is_no_memory : Option (Option Slot) → Bool
 is_no_memory (Some (Some slot)) = not (allows_memory slot.allowed)

@@ -1,48 +1,41 @@
--- Stub.
-use Rattle.std.proofs.Common.{◌≡◌, ◌⊎◌, ℕ, ◌+◌, ◌*◌, ◌-◌, ◌%◌, ◌^◌, ◌<◌, ◌≤◌, List, [], ◌∷◌, Bool, true, false, if◌then◌else◌, Option, None, Some, slice_get, slice_index}
-use Rattle.asm_core.specs.Entry.{IsEntry}
-use Rattle.asm_core.specs.Flag.{flag_number, flag_in}
-use Rattle.asm_core.specs.Frame.{HoldsOutput, MayWrite}
-use Rattle.asm_core.specs.Lists.{IsMember}
-use Rattle.asm_core.specs.Machine.{IsMachine, byte_at, layouts_of, reg_in}
-use Rattle.asm_core.specs.Placement.{IsAllowed}
-use Rattle.asm_core.specs.Reg.{IsIn}
-use Rattle.asm_core.specs.RowLaws.{IsPlaced, FitsTargets, FitsCopies}
+-- A line that is read has at each placement what its steps ask for.
+use Rattle.std.proofs.Common.{◌≡◌, ℕ, zero, suc, true, List, [], ◌∷◌, Some, slice_get, ap, subst, ◌∙◌}
+use Rattle.std.specs.List.{list_all}
+use Rattle.std.proofs.lemmas.Bool.{and_parts}
 use Rattle.asm_core.specs.Rows.{line_row}
-use Rattle.asm_core.specs.Shape.{shapes_of}
-use Rattle.asm_core.specs.Steps.{Stand}
-use Rattle.asm_core.specs.WellFormed.{IsInterface}
-use Rattle.asm_core.specs.declared.flag.Flag.{Flag}
-use Rattle.asm_core.specs.declared.inst.Repeat.{Repeat}
-use Rattle.asm_core.specs.declared.interface.Interface.{Interface}
-use Rattle.asm_core.specs.declared.lines.Graph.{Graph}
-use Rattle.asm_core.specs.declared.machine.Machine.{Machine}
-use Rattle.asm_core.specs.declared.placement.Placement.{Placement}
-use Rattle.asm_core.specs.declared.reg.Reg.{Reg}
-use Rattle.asm_core.specs.declared.shape.Shape.{Shape}
+use Rattle.asm_core.specs.declared.sym.Arg.{Arg}
 use Rattle.asm_core.specs.declared.sym.Sym.{Sym}
-use Rattle.dataflow.specs.Paths.{IsPathTo}
-use Rattle.x86_table.specs.TableLaws.{IsStepped, IsPlain}
-use Rattle.blk_flow.specs.Graph.{always_jumps}
-use Rattle.blk_deps.specs.declared.fact.Fact.TheVariants.{Here, Has, DirectionSet}
-use Rattle.blk_deps.specs.declared.fact.Property.TheVariants.{NotEntryOf, Pair}
-use Rattle.blk_deps.specs.Cells.{flag_cell}
-use Rattle.blk_deps.specs.Facts.{Facts, after_moves}
-use Rattle.blk_deps.specs.Findings.{Setting}
-use Rattle.blk_deps.specs.Line.{line_reads, line_puts}
-use Rattle.blk_deps.specs.Stack.{pushes, pops, AreDepths}
-use Rattle.blk_deps.specs.StackTable.{IsSound}
-use Rattle.blk_deps.specs.Ways.{IsGraph, size_of, goes}
-use Rattle.blk_frame.specs.Accepted.{EndsSound, PassesSound, facts_on}
-use Rattle.blk_frame.specs.Laws.{Holds, IsTableStep, AreStates}
-use Rattle.blk_frame.specs.Shown.{placed_by}
-use Rattle.blk_frame.specs.Lines.{IsOfShape}
+use Rattle.asm_core.specs.declared.shape.Shape.{Shape}
+use Rattle.asm_core.specs.declared.interface.Interface.{Interface}
+use Rattle.asm_core.specs.declared.placement.Placement.{Placement}
+use Rattle.asm_core.proofs.ReadingLaws.PlacesThere.{is_arg_own, IsFit}
+use Rattle.x86_table.proofs.EntryLaws.{obeys_table}
+use Rattle.x86_table.proofs.LinesFit.{IsOfTable, fits_table}
+use Rattle.blk_frame.specs.Lines.{NamesPlaces}
+use Rattle.blk_frame.specs.Read.{LineFits}
+use Rattle.blk_frame.proofs.JumpsOnce.{jumps_once}
+use Rattle.blk_frame.proofs.OwnPlaces.{names_places}
+use Rattle.blk_frame.proofs.PartsRead.{read_stores_whole}
 
-pub record LineFits (i : Interface) (s : Shape) (p : Placement) (line : Sym) : Type 0 where
-  pub placed : IsPlaced p line
-  pub of_shape : IsOfShape i s line
-  pub plain : IsPlain line
-  pub targets : FitsTargets p line (line_row line)
-  pub copies : FitsCopies p line (line_row line)
-  pub jumps_once : always_jumps line.op ≡ true → line.repeat ≡ Repeat.No
+module _ (i : Interface) (s : Shape) where
+  names_at : (args : List Arg) → list_all (is_arg_own i s) args ≡ true → (k : ℕ) (arg : Arg)
+      → slice_get args k ≡ Some arg → NamesPlaces i s arg
+  names_at [] own k arg at = cc
+  names_at (first ∷ args) own zero arg at =
+      let same : first ≡ arg = cc in
+      subst (NamesPlaces i s) same (names_places i s first (and_parts (is_arg_own i s first) _ own).0)
+  names_at (first ∷ args) own (suc k) arg at = names_at args (and_parts (is_arg_own i s first) _ own).1 k arg at
 
+  pub line_fits : (p : Placement) (line : Sym) → IsFit i s p line → IsOfTable line → LineFits i s p line
+  line_fits p line fit of_table =
+      let table = fits_table line of_table in
+      let fits = obeys_table.fits line (line_row line) table.operands p in
+      record {
+        placed = fit.placed;
+        of_shape = record { each = names_at line.args fit.own };
+        plain = table.plain;
+        targets = fits.0;
+        copies = fits.1;
+        jumps_once = jumps_once line of_table;
+        whole = read_stores_whole line of_table;
+      }

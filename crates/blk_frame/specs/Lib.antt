@@ -5,3 +5,4 @@ pub mod Lines
 pub mod Laws
 pub mod Accepted
 pub mod Stores
+pub mod Read
