@@ -44,10 +44,9 @@ use Rattle.blk_deps.specs.StackTable.{IsSound}
 use Rattle.blk_deps.specs.Ways.{IsGraph, line_number}
 use Rattle.blk_deps.specs.declared.violation.Violation.{Violation}
 use Rattle.blk_frame.specs.Accepted.{NoneBroken, IsShapeOf}
-use Rattle.blk_frame.specs.Read.{LineFits}
 use Rattle.blk_frame.proofs.BlockRuns.{framed}
 use Rattle.blk_frame.proofs.Members.{in_front, in_back, in_map}
-use Rattle.blk_frame.proofs.ReadLines.{line_fits}
+use Rattle.blk_frame.proofs.ReadLines.{LineFits, line_fits}
 use Rattle.blk_frame.proofs.SettingsThere.{settings_there}
 use Rattle.blk_frame.proofs.Stable.{framed_unless}
 use Rattle.blk_text.proofs.CodeThere.{code_there, code_unless}
@@ -95,9 +94,9 @@ byte_rule_listed i k lt =
     let same : 0 + k ≡ k = omega arith in
     let number = subst (λ m. IsMember m (numbers_in i)) same (counted 0 k i.operands lt) in
     let before =
-        registers_alone Rule.W1 ++ operands_alone Rule.W2 i ++ alone Rule.W3 Cell.Cc ∷ [] ++ alone Rule.W4 (Cell.Flag Flag.Df) ∷ []
-        ++ alone Rule.M1 Cell.Memory ∷ [] ++ operands_alone Rule.M2 i ++ registers_alone Rule.R1 ++ flags_alone Rule.R1
-        ++ operands_alone Rule.R2 i ++ operands_alone Rule.R3 i ++ alone Rule.R3 Cell.Nothing ∷ [] in
+    registers_alone Rule.W1 ++ operands_alone Rule.W2 i ++ alone Rule.W3 Cell.Cc ∷ [] ++ alone Rule.W4 (Cell.Flag Flag.Df) ∷ []
+    ++ alone Rule.M1 Cell.Memory ∷ [] ++ operands_alone Rule.M2 i ++ registers_alone Rule.R1 ++ flags_alone Rule.R1
+    ++ operands_alone Rule.R2 i ++ operands_alone Rule.R3 i ++ alone Rule.R3 Cell.Nothing ∷ [] in
     in_front (before ++ operands_alone Rule.U2 i ++ pairs_of Rule.U3 (place_names i)) (operands_alone Rule.U4 i) v
     (in_front (before ++ operands_alone Rule.U2 i) (pairs_of Rule.U3 (place_names i)) v
     (in_back before (operands_alone Rule.U2 i) v (in_map (λ j. alone Rule.U2 (Cell.Operand j)) (numbers_in i) k number)))
@@ -161,17 +160,17 @@ module _ (s : Statement) (i : Interface) (interface : IsInterface i) (of : IsInt
     code_kept unique small =
         code_unless i shape p interface allowed (pieces_in s.body) u.lines u.graph u.under u.of_lines.lines unique pieces_there small u.of_lines.is
         (λ no. settled (λ depths shares is.
-            no (code_there i shape p interface allowed (pieces_in s.body) u.lines u.graph u.under u.of_lines.lines unique shares pieces_there small u.of_lines.is is.shares
-            (keeps_u2 i c.live c.graphs u.number shape u.graph u.is_shape u.is_graph depths shares is
-            (λ k line lt broken. none.each (alone Rule.U2 (Cell.Operand k)) line (byte_rule_listed i k lt) broken)))))
+        no (code_there i shape p interface allowed (pieces_in s.body) u.lines u.graph u.under u.of_lines.lines unique shares pieces_there small u.of_lines.is is.shares
+        (keeps_u2 i c.live c.graphs u.number shape u.graph u.is_shape u.is_graph depths shares is
+        (λ k line lt broken. none.each (alone Rule.U2 (Cell.Operand k)) line (byte_rule_listed i k lt) broken)))))
 
     runs : RunsFramed i shape p (placed_code p u.graph)
     runs = record {
       each = λ entry n choices outside start.
           framed_unless i shape p entry (run_of (placed_code p u.graph) n choices outside entry)
           (λ no. settled (λ depths shares is.
-              no (framed (setting depths shares) c.graphs u.number (record { is_shape = u.is_shape; is_graph = u.is_graph; setting = is }) none u.of_lines.graph sound p
-              interface member allowed entry start lines_there n choices outside)));
+          no (framed (setting depths shares) c.graphs u.number (record { is_shape = u.is_shape; is_graph = u.is_graph; setting = is }) none u.of_lines.graph sound p
+          interface member allowed entry start lines_there n choices outside)));
     }
 
   keeps : KeepsFrame i (pieces_in s.body)

@@ -1,16 +1,15 @@
 -- A run of an accepted block changes only what is declared.
-use Rattle.std.proofs.Common.{◌≡◌, ◌⊎◌, inl, inr, ℕ, zero, suc, ◌+◌, ◌*◌, ◌-◌, ◌%◌, ◌^◌, ◌<◌, ◌≤◌, List, [], ◌∷◌, length, map, Bool, true, false, IsTrue, if◌then◌else◌, Option, None, Some, slice_get, slice_index, refl, sym, ap, subst, ◌∙◌, arith}
+use Rattle.std.proofs.Common.{◌≡◌, ◌⊎◌, inl, inr, ℕ, zero, suc, ◌+◌, ◌*◌, ◌%◌, ◌^◌, ◌<◌, ◌≤◌, List, [], ◌∷◌, length, map, Bool, true, IsTrue, if◌then◌else◌, Option, None, Some, slice_get, slice_index, refl, sym, ap, subst, ◌∙◌, arith}
 use Rattle.std.specs.Option.{option_map}
 use Rattle.std.proofs.lemmas.Option.{slice_get-map, slice_get_past}
 use Rattle.std.proofs.lemmas.Bool.{both_ways, cases_lt, false_from_ne_true}
 use Rattle.asm_core.specs.Entry.{IsEntry}
 use Rattle.asm_core.specs.Flag.{flag_number, flag_in}
-use Rattle.asm_core.specs.Frame.{HoldsOutput, MayWrite, MayChange, MayDiffer, IsFramed}
+use Rattle.asm_core.specs.Frame.{MayWrite, MayChange, MayDiffer, IsFramed}
 use Rattle.asm_core.specs.Lists.{IsMember}
 use Rattle.asm_core.specs.Machine.{IsMachine, Location, Keeps, value_at, byte_at, layouts_of}
 use Rattle.asm_core.specs.Placement.{IsAllowed}
 use Rattle.asm_core.specs.Reading.Placed.{inst_under}
-use Rattle.asm_core.specs.Reg.{IsIn}
 use Rattle.asm_core.specs.Rows.{row_step}
 use Rattle.asm_core.specs.Run.{Outcome, run_of}
 use Rattle.asm_core.specs.Shape.{shapes_of}
@@ -19,31 +18,21 @@ use Rattle.asm_core.specs.WellFormed.{IsInterface}
 use Rattle.asm_core.proofs.PlacedLaws.{steps_as_line}
 use Rattle.asm_core.proofs.Runs.{EndsIn}
 use Rattle.asm_core.specs.declared.flag.Flag.{Flag}
-use Rattle.asm_core.specs.declared.flag.Flag.TheVariants as flags
-use Rattle.asm_core.specs.declared.inst.Code.{Code}
 use Rattle.asm_core.specs.declared.inst.Inst.{Inst}
 use Rattle.asm_core.specs.declared.inst.Repeat.{Repeat}
-use Rattle.asm_core.specs.declared.interface.Interface.{Interface}
 use Rattle.asm_core.specs.declared.lines.Graph.{Graph}
-use Rattle.asm_core.specs.declared.machine.Fault.{Fault}
 use Rattle.asm_core.specs.declared.machine.Machine.{Machine}
 use Rattle.asm_core.specs.declared.placement.Placement.{Placement}
-use Rattle.asm_core.specs.declared.reg.Reg.{Reg}
-use Rattle.asm_core.specs.declared.shape.Shape.{Shape}
 use Rattle.asm_core.specs.declared.sym.Sym.{Sym}
 use Rattle.dataflow.specs.Paths.{IsPathTo}
-use Rattle.blk_deps.specs.declared.fact.Fact.TheVariants.{Here, DirectionSet}
-use Rattle.blk_deps.specs.Facts.{Facts, after_moves}
-use Rattle.blk_deps.specs.Findings.{Setting, IsSetting, moved_by}
-use Rattle.blk_deps.specs.Line.{line_reads, line_puts}
-use Rattle.blk_deps.specs.Stack.{pushes, pops}
+use Rattle.blk_deps.specs.declared.fact.Fact.TheVariants.{DirectionSet}
+use Rattle.blk_deps.specs.Findings.{Setting, moved_by}
 use Rattle.blk_deps.specs.StackTable.{IsSound}
 use Rattle.blk_deps.specs.Ways.{IsGraph, size_of, goes}
 use Rattle.blk_deps.proofs.StackLemmas.{path_within}
 use Rattle.blk_text.specs.Text.{placed_code}
 use Rattle.blk_frame.specs.Accepted.{NoneBroken, EndsSound, PassesSound, IsShapeOf, facts_on}
-use Rattle.blk_frame.specs.Laws.{Holds, IsTableStep, AreStates, FactsHold}
-use Rattle.blk_frame.specs.Read.{LineFits}
+use Rattle.blk_frame.specs.Laws.{Holds, IsTableStep, AreStates}
 use Rattle.blk_frame.specs.Shown.{placed_by}
 use Rattle.blk_frame.proofs.DepthsThere.{depth_start, depth_few, depth_room, depth_pop, depth_on, depth_end}
 use Rattle.blk_frame.proofs.DirectionKept.{direction_after, direction_turn, direction_end}
@@ -53,6 +42,7 @@ use Rattle.blk_frame.proofs.FlagsKept.{flags_kept}
 use Rattle.blk_frame.proofs.LayoutsKept.{layouts_kept}
 use Rattle.blk_frame.proofs.MachineKept.{machine_kept}
 use Rattle.blk_frame.proofs.MemoryKept.{memory_kept}
+use Rattle.blk_frame.proofs.ReadLines.{LineFits}
 use Rattle.blk_frame.proofs.RegistersKept.{registers_kept}
 use Rattle.blk_frame.proofs.RunInduction.{runs_in}
 use Rattle.blk_frame.proofs.StackMoves.{depth_behind, repeat_rests, stack_moves}
@@ -230,7 +220,7 @@ module _ (x : Setting) (graphs : List Graph) (number : ℕ) (is : IsShapeOf x gr
         depth = deep;
         holds = table_facts_held.along x path n line stand entry is.setting here table_step known.holds;
         direction = subst Behind (sym here)
-            (direction_after x.interface x.shape x.shares (slice_index x.depths n) line stand (facts_on x path) table_step
+            (direction_after x.interface x.shape x.shares (slice_index x.depths n) line stand (facts_on x path) fits.sets_once table_step
             (here_on x path) known.direction);
       }
 
@@ -240,7 +230,7 @@ module _ (x : Setting) (graphs : List Graph) (number : ℕ) (is : IsShapeOf x gr
       known_again node deep = record {
         depth = deep;
         holds = table_facts_held.again x path n line stand entry is.setting here table_step more known.holds;
-        direction = λ set. known.direction (sym (direction_turn x.interface x.shape (slice_index x.depths n) line stand more table_step) ∙ set);
+        direction = λ set. known.direction (sym (direction_turn x.interface x.shape (slice_index x.depths n) line stand fits.sets_once more table_step) ∙ set);
       }
 
     module _ (known : (node : ℕ) → next.scratch_top ≡ slice_index x.depths node → Known x p entry node (n ∷ path) next)
@@ -330,7 +320,7 @@ module _ (x : Setting) (graphs : List Graph) (number : ℕ) (is : IsShapeOf x gr
 
     other_flag : (f : Flag) → flag_number f < 6 → (IsTrue x.interface.cc → ⊥) → flag_in f m.flags ≡ flag_in f entry.flags
     other_flag f low may =
-        flags_kept x.interface x.shape p entry m (facts_on x path) ends (flags_plain x path) known.holds
+        flags_kept x.interface x.shape p entry m (facts_on x path) ends (flags_plain x interface path) known.holds
         (false_from_ne_true x.interface.cc may) f low
 
     abbrev as_number : Bool → ℕ

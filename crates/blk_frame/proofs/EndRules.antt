@@ -47,8 +47,9 @@ module _ (i : Interface) where
   five a b c d e f v is = in_front (a ++ b ++ c ++ d ++ e) f v
       (in_front (a ++ b ++ c ++ d) e v (in_front (a ++ b ++ c) d v (in_front (a ++ b) c v (in_front a b v is))))
 
-  flags_first : (v : Violation) → IsMember v to_flags → IsMember v to_addresses
-  flags_first v is =
+  direction_first : (v : Violation) → IsMember v (to_flags ++ alone Rule.W4 (Cell.Flag Flag.Df) ∷ [])
+      → IsMember v to_addresses
+  direction_first v is =
       five (to_flags ++ alone Rule.W4 (Cell.Flag Flag.Df) ∷ [] ++ alone Rule.M1 Cell.Memory ∷ [] ++ operands_alone
       Rule.M2 i ++ registers_alone Rule.R1) (flags_alone Rule.R1) (operands_alone Rule.R2 i)
       (operands_alone Rule.R3 i) (alone Rule.R3 Cell.Nothing ∷ []) (operands_alone Rule.U2 i) v
@@ -57,8 +58,10 @@ module _ (i : Interface) where
       (registers_alone Rule.R1) v
       (in_front (to_flags ++ alone Rule.W4 (Cell.Flag Flag.Df) ∷ [] ++ alone Rule.M1 Cell.Memory ∷ [])
       (operands_alone Rule.M2 i) v
-      (in_front (to_flags ++ alone Rule.W4 (Cell.Flag Flag.Df) ∷ []) (alone Rule.M1 Cell.Memory ∷ []) v
-      (in_front to_flags (alone Rule.W4 (Cell.Flag Flag.Df) ∷ []) v is))))
+      (in_front (to_flags ++ alone Rule.W4 (Cell.Flag Flag.Df) ∷ []) (alone Rule.M1 Cell.Memory ∷ []) v is)))
+
+  flags_first : (v : Violation) → IsMember v to_flags → IsMember v to_addresses
+  flags_first v is = direction_first v (in_front to_flags (alone Rule.W4 (Cell.Flag Flag.Df) ∷ []) v is)
 
   among_flags : (v : Violation) → IsMember v to_flags → IsMember v (violations_of i)
   among_flags v is = in_front to_pairs (operands_alone Rule.U4 i) v
@@ -78,10 +81,16 @@ module _ (i : Interface) where
       (in_back (registers_alone Rule.W1) (operands_alone Rule.W2 i) (alone Rule.W2 (Cell.Operand j))
       (in_map (λ k. alone Rule.W2 (Cell.Operand k)) (numbers_in i) j is)))
 
-  listed_flags : IsMember (alone Rule.W3 Cell.Cc) (violations_of i)
+  pub listed_flags : IsMember (alone Rule.W3 Cell.Cc) (violations_of i)
   listed_flags = among_flags (alone Rule.W3 Cell.Cc)
       (in_back (registers_alone Rule.W1 ++ operands_alone Rule.W2 i) (alone Rule.W3 Cell.Cc ∷ [])
       (alone Rule.W3 Cell.Cc) (inl refl))
+
+  pub listed_direction : IsMember (alone Rule.W4 (Cell.Flag Flag.Df)) (violations_of i)
+  listed_direction =
+      let v = alone Rule.W4 (Cell.Flag Flag.Df) in
+      in_front to_pairs (operands_alone Rule.U4 i) v (in_front to_addresses (pairs_of Rule.U3 (place_names i)) v
+      (direction_first v (in_back to_flags (v ∷ []) v (inl refl))))
 
   pub listed_pair : (cell other : Cell) → IsMember cell (place_names i) → IsMember other (place_names i)
       → IsMember (record { rule = Rule.U3; cell = cell; other = other }) (violations_of i)

@@ -1,8 +1,7 @@
 -- A line of the table of names that goes to its goal alone isn't repeated.
-use Rattle.std.proofs.Common.{◌≡◌, ℕ, ◌||◌, not, Bool, true, false, List, refl, sym, ap, subst, ◌∙◌}
+use Rattle.std.proofs.Common.{◌≡◌, ◌||◌, not, Bool, true, false, refl, sym, subst}
 use Rattle.std.specs.List.{list_all}
 use Rattle.asm_core.specs.Lists.{IsMember}
-use Rattle.asm_core.specs.Reading.Line.{sym_of}
 use Rattle.asm_core.specs.Reading.Names.{names}
 use Rattle.asm_core.specs.declared.inst.Op.{Op}
 use Rattle.asm_core.specs.declared.inst.Repeat.{Repeat}
@@ -13,11 +12,14 @@ use Rattle.blk_flow.specs.Graph.{always_jumps}
 use Rattle.x86_table.proofs.NamesCheck.{operations_of, repeats_of}
 use Rattle.x86_table.proofs.NamesFit.{all_at, implied, IsOfRow}
 use Rattle.x86_table.proofs.LinesFit.{IsOfTable}
-use Rattle.blk_frame.specs.Read.{JumpsOnce}
+
+-- a line that goes to its goal alone isn't repeated
+abbrev pub JumpsOnce : Sym → Type 0
+JumpsOnce line = always_jumps line.op ≡ true → line.repeat ≡ Repeat.No
 
 abbrev is_no_repeat : Repeat → Bool
 is_no_repeat Repeat.No = true
-is_no_repeat repeat = false
+is_no_repeat _ = false
 
 abbrev op_jumps_once : NameRow → Op → Bool
 op_jumps_once r op = not (always_jumps op) || list_all is_no_repeat (repeats_of r)

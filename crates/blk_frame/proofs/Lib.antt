@@ -51,3 +51,6 @@ pub mod OwnPlaces
 pub mod ReadLines
 pub mod JumpsOnce
 pub mod BlockRuns
+pub mod LoneRows
+pub mod LoneEntries
+pub mod SetsOnce

@@ -1,11 +1,10 @@
 -- A place that an operand has of its own is a place of the shape, and so is its own address.
-use Rattle.std.proofs.Common.{◌≡◌, ℕ, ◌+◌, ◌-◌, ◌==◌, ◌&&◌, ◌||◌, nat_lt, Bool, true, false, List, [], ◌∷◌, Option, None, Some, is_none, is_some, slice_get, if◌then◌else◌, refl, sym, ap, subst, ◌∙◌, arith}
-use Rattle.std.proofs.lemmas.Bool.{le-ltb, eq-eqb, eqb-true, and_from, and_parts, or_left, or_right}
+use Rattle.std.proofs.Common.{◌≡◌, ℕ, ◌+◌, ◌-◌, ◌==◌, ◌&&◌, nat_lt, Bool, true, false, Option, None, Some, is_none, is_some, slice_get, refl, ap, ◌∙◌, arith}
+use Rattle.std.proofs.lemmas.Bool.{eq-eqb, eqb-true, and_from, and_parts, or_left, or_right}
 use Rattle.asm_core.specs.Company.{is_pair_alone, register_places, places_by, places_of}
 use Rattle.asm_core.specs.Placement.{tie_root}
 use Rattle.asm_core.specs.Reading.Facts.{fixed_register, alternative_at}
 use Rattle.asm_core.specs.declared.reg.Reg.{Reg}
-use Rattle.asm_core.specs.declared.company.Places.{Places}
 use Rattle.asm_core.specs.declared.interface.AltIface.{AltIface}
 use Rattle.asm_core.specs.declared.interface.OperandIface.{OperandIface}
 use Rattle.asm_core.specs.declared.interface.Interface.{Interface}
@@ -61,17 +60,23 @@ module _ (i : Interface) (s : Shape) (k : ℕ) where
   own_place own =
       let parts = and_parts (tie_root i s k == k) _ own in
       let root = eqb-true (tie_root i s k) k parts.0 in
-      let by = own_by k (slice_get i.operands k) (alternative_at (slice_get i.operands k) s.alternative) (slice_get s.kinds k) parts.1 in
+      let by = own_by k (slice_get i.operands k) (alternative_at (slice_get i.operands k) s.alternative)
+      (slice_get s.kinds k) parts.1 in
       let is : is_own k (places_of i s k) ≡ true = rw root by.1.1 in
       let in_one : in_register s k ≡ true = rw by.1.0 refl in
-      numbered i s k (and_from (is_some (slice_get i.operands k)) _ by.0 (or_left (has_own_register i s k) (has_address i s k) (and_from (in_register s k && is_root i s k) _ (and_from (in_register s k) (is_root i s k) in_one parts.0) is)))
+      let there : has_own_register i s k ≡ true = and_from (in_register s k && is_root i s k) _
+      (and_from (in_register s k) (is_root i s k) in_one parts.0) is in
+      numbered i s k (and_from (is_some (slice_get i.operands k)) _ by.0
+      (or_left (has_own_register i s k) (has_address i s k) there))
 
   pub own_address : has_own_address i s k ≡ true → is_place i s (7 + k) ≡ true
   own_address own =
       let parts = and_parts (tie_root i s k == k) _ own in
       let there = and_parts (is_some (slice_get i.operands k)) _ parts.1 in
       let in_one : in_memory s k ≡ true = rw (in_memory_by (slice_get s.kinds k) there.1) refl in
-      numbered i s k (and_from (is_some (slice_get i.operands k)) _ there.0 (or_right (has_own_register i s k) (has_address i s k) (and_from (in_memory s k) (is_root i s k) in_one parts.0)))
+      numbered i s k (and_from (is_some (slice_get i.operands k)) _ there.0
+      (or_right (has_own_register i s k) (has_address i s k)
+      (and_from (in_memory s k) (is_root i s k) in_one parts.0)))
 
 module _ (i : Interface) (s : Shape) where
   names_place : (place : Place) → is_place_own i s place ≡ true → NamesPlace i s (Some place)

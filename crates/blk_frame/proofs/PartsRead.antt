@@ -6,11 +6,8 @@ use Rattle.asm_core.specs.Entries.{arg_or_zero, line_arg, memory_arg}
 use Rattle.asm_core.specs.Reading.Chosen.{allows_memory, class_of, slot_allows, all_stand}
 use Rattle.asm_core.specs.Reading.Line.{arg_of, sym_of}
 use Rattle.asm_core.specs.Reading.Names.{names}
-use Rattle.asm_core.specs.declared.cond.Cond.{Cond}
-use Rattle.asm_core.specs.declared.inst.Op.{Op}
 use Rattle.asm_core.specs.declared.inst.Width.{Width}
 use Rattle.asm_core.specs.declared.names.NameRow.{NameRow}
-use Rattle.asm_core.specs.declared.names.Operation.{Operation}
 use Rattle.asm_core.specs.declared.names.Slot.{Slot}
 use Rattle.asm_core.specs.declared.reading.Line.{Line}
 use Rattle.asm_core.specs.declared.reading.LineOperand.{LineOperand}

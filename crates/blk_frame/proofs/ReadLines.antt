@@ -1,7 +1,8 @@
 -- A line that is read has at each placement what its steps ask for.
-use Rattle.std.proofs.Common.{◌≡◌, ℕ, zero, suc, true, List, [], ◌∷◌, Some, slice_get, ap, subst, ◌∙◌}
+use Rattle.std.proofs.Common.{◌≡◌, ℕ, zero, suc, true, List, [], ◌∷◌, Some, slice_get, subst}
 use Rattle.std.specs.List.{list_all}
 use Rattle.std.proofs.lemmas.Bool.{and_parts}
+use Rattle.asm_core.specs.RowLaws.{IsPlaced, FitsTargets, FitsCopies}
 use Rattle.asm_core.specs.Rows.{line_row}
 use Rattle.asm_core.specs.declared.sym.Arg.{Arg}
 use Rattle.asm_core.specs.declared.sym.Sym.{Sym}
@@ -9,13 +10,27 @@ use Rattle.asm_core.specs.declared.shape.Shape.{Shape}
 use Rattle.asm_core.specs.declared.interface.Interface.{Interface}
 use Rattle.asm_core.specs.declared.placement.Placement.{Placement}
 use Rattle.asm_core.proofs.ReadingLaws.PlacesThere.{is_arg_own, IsFit}
+use Rattle.x86_table.specs.TableLaws.{IsPlain}
 use Rattle.x86_table.proofs.EntryLaws.{obeys_table}
 use Rattle.x86_table.proofs.LinesFit.{IsOfTable, fits_table}
-use Rattle.blk_frame.specs.Lines.{NamesPlaces}
-use Rattle.blk_frame.specs.Read.{LineFits}
-use Rattle.blk_frame.proofs.JumpsOnce.{jumps_once}
+use Rattle.blk_frame.specs.Lines.{NamesPlaces, IsOfShape}
+use Rattle.blk_frame.specs.Stores.{StoresWhole}
+use Rattle.blk_frame.proofs.DirectionKept.{SetsOnce}
+use Rattle.blk_frame.proofs.JumpsOnce.{JumpsOnce, jumps_once}
 use Rattle.blk_frame.proofs.OwnPlaces.{names_places}
 use Rattle.blk_frame.proofs.PartsRead.{read_stores_whole}
+use Rattle.blk_frame.proofs.SetsOnce.{sets_once}
+
+-- what is known of a line that is read under a shape, where a placement puts it
+pub record LineFits (i : Interface) (s : Shape) (p : Placement) (line : Sym) : Type 0 where
+  pub placed : IsPlaced p line
+  pub of_shape : IsOfShape i s line
+  pub plain : IsPlain line
+  pub targets : FitsTargets p line (line_row line)
+  pub copies : FitsCopies p line (line_row line)
+  pub jumps_once : JumpsOnce line
+  pub sets_once : SetsOnce line
+  pub whole : StoresWhole line
 
 module _ (i : Interface) (s : Shape) where
   names_at : (args : List Arg) → list_all (is_arg_own i s) args ≡ true → (k : ℕ) (arg : Arg)
@@ -37,5 +52,6 @@ module _ (i : Interface) (s : Shape) where
         targets = fits.0;
         copies = fits.1;
         jumps_once = jumps_once line of_table;
+        sets_once = sets_once line of_table;
         whole = read_stores_whole line of_table;
       }

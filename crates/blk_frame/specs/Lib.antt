@@ -5,4 +5,3 @@ pub mod Lines
 pub mod Laws
 pub mod Accepted
 pub mod Stores
-pub mod Read
