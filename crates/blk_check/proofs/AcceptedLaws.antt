@@ -63,9 +63,9 @@ module _ (s : Statement) (i : Interface) (p : Proven) where
   found_none Otherwise [] v = (refl, v)
   found_none Otherwise (f ∷ fs) v = cc
 
-  module _ (live : List Shape) (lines : List Lines) (few : length (shapes_of i) ≤ 64) (room : AnyHasRoom i (shapes_of i)) (are_live : AreLive i (shapes_of i) live)
-    (readings : readings_under i (pieces_in s.body) live ≡ Ok lines) (read : first_unread lines ≡ None) (alike : shape_findings i live lines ≡ [])
-  where
+  module _ (live : List Shape) (lines : List Lines) (few : length (shapes_of i) ≤ 64) (room : AnyHasRoom i (shapes_of i))
+      (are_live : AreLive i (shapes_of i) live) (readings : readings_under i (pieces_in s.body) live ≡ Ok lines)
+      (read : first_unread lines ≡ None) (alike : shape_findings i live lines ≡ []) where
     clean_paths : (graphs : List Graph) → graphs_of lines ≡ Ok graphs → AreFindings (IsStackBroken graphs) stack_violations [] → IsPathsVerdict s i live graphs (Verdict.Ok p) → IsCleared s i p
     clean_paths graphs blocks level v =
         let none = found_none (IsAccepted s i) v.found v.verdict in
@@ -138,7 +138,7 @@ module _ (i : Interface) where
   live_there (q ∷ ss) live shape (inr h) (inr member) here = live_there ss live shape h.1 member here
 
 module _ (s : Statement) (i : Interface) where
-  pieces : List Piece
+  abbrev pieces : List Piece
   pieces = pieces_in s.body
 
   record Under (shapes : List Shape) (xs : List Lines) (gs : List Graph) (k : ℕ) (shape : Shape) : Type 0 where
@@ -148,24 +148,34 @@ module _ (s : Statement) (i : Interface) where
     under : lines_under names i shape pieces ≡ Ok lines
     of_lines : IsGraphOf lines graph
 
-  pair_at : (shapes : List Shape) (xs : List Lines) (gs : List Graph) (k : ℕ) (shape : Shape) → readings_under i pieces shapes ≡ Ok xs → AllZip IsGraphOf xs gs → slice_get shapes k ≡ Some shape → Under shapes xs gs k shape
+  abbrev PairsIn : List Shape → Shape → Type 0
+  PairsIn shapes shape = (xs : List Lines) (gs : List Graph) (k : ℕ) → readings_under i pieces shapes ≡ Ok xs
+      → AllZip IsGraphOf xs gs → slice_get shapes k ≡ Some shape → Under shapes xs gs k shape
+
+  pair_at : (shapes : List Shape) (shape : Shape) → PairsIn shapes shape
   unfolding readings_under
-  pair_at [] xs gs k shape read zip at = cc
-  pair_at (q ∷ shapes) xs gs k shape read zip at = first (lines_under names i q pieces) (readings_under i pieces shapes) refl refl read k gs zip at
+  pair_at [] shape xs gs k read zip at = cc
+  pair_at (q ∷ shapes) shape xs gs k read zip at =
+      first (pair_at shapes shape) (lines_under names i q pieces) (readings_under i pieces shapes) refl refl read k gs zip at
     where
-      first : (r : Result Lines LinesEnd) (rs : Result (List Lines) LinesEnd) → lines_under names i q pieces ≡ r → readings_under i pieces shapes ≡ rs → with_lines r rs ≡ Ok xs → (k : ℕ) (gs : List Graph)
-          → AllZip IsGraphOf xs gs → slice_get (q ∷ shapes) k ≡ Some shape → Under (q ∷ shapes) xs gs k shape
-      first (Err end) rs one others e k gs zip at = cc
-      first (Ok x) (Err end) one others e k gs zip at = cc
-      first (Ok x) (Ok ys) one others e k gs zip at =
+      first : PairsIn shapes shape → (r : Result Lines LinesEnd) (rs : Result (List Lines) LinesEnd)
+          → lines_under names i q pieces ≡ r → readings_under i pieces shapes ≡ rs → with_lines r rs ≡ Ok xs
+          → (k : ℕ) (gs : List Graph) → AllZip IsGraphOf xs gs → slice_get (q ∷ shapes) k ≡ Some shape
+          → Under (q ∷ shapes) xs gs k shape
+      first rest (Err end) rs one others e k gs zip at = cc
+      first rest (Ok x) (Err end) one others e k gs zip at = cc
+      first rest (Ok x) (Ok ys) one others e k gs zip at =
           let same : x ∷ ys ≡ xs = cc in
           by k gs at (subst (λ zs. AllZip IsGraphOf zs gs) (sym same) zip)
         where
-          by : (k : ℕ) (gs : List Graph) → slice_get (q ∷ shapes) k ≡ Some shape → AllZip IsGraphOf (x ∷ ys) gs → Under (q ∷ shapes) xs gs k shape
+          by : (k : ℕ) (gs : List Graph) → slice_get (q ∷ shapes) k ≡ Some shape → AllZip IsGraphOf (x ∷ ys) gs
+              → Under (q ∷ shapes) xs gs k shape
           by k [] at zip = absurd zip
-          by zero (g ∷ gs) at zip = let is : q ≡ shape = cc in record { lines = x; graph = g; is_graph = refl; under = subst (λ t. lines_under names i t pieces ≡ Ok x) is one; of_lines = zip.0 }
+          by zero (g ∷ gs) at zip =
+              let is : q ≡ shape = cc in
+              record { lines = x; graph = g; is_graph = refl; under = subst (λ t. lines_under names i t pieces ≡ Ok x) is one; of_lines = zip.0 }
           by (suc k) (g ∷ gs) at zip =
-              let u = pair_at shapes ys gs k shape others zip.1 at in
+              let u = rest ys gs k others zip.1 at in
               record { lines = u.lines; graph = u.graph; is_graph = u.is_graph; under = u.under; of_lines = u.of_lines }
 
   -- under a shape with an allowed placement a clean statement has lines that are all read, and a block
@@ -173,5 +183,5 @@ module _ (s : Statement) (i : Interface) where
   under_each c shape member here =
       let at = live_there i (shapes_of i) c.live shape c.are_live member here in
       let blocks = blocks_are i pieces c.live c.lines c.readings c.read c.alike c.graphs c.blocks in
-      let u = pair_at c.live c.lines c.graphs at.0 shape c.readings blocks.each at.1 in
+      let u = pair_at c.live shape c.lines c.graphs at.0 c.readings blocks.each at.1 in
       record { number = at.0; lines = u.lines; graph = u.graph; is_shape = at.1; is_graph = u.is_graph; under = u.under; of_lines = u.of_lines }

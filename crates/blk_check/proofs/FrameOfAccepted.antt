@@ -6,7 +6,7 @@ use Rattle.std.proofs.lemmas.Option.{slice_get-map}
 use Rattle.std.proofs.lemmas.List.Elements.{All-head, All-tail}
 use Rattle.asm_core.specs.Comments.{comments_of}
 use Rattle.asm_core.specs.Constraint.{names_of}
-use Rattle.asm_core.specs.Frame.{IsFramed, RunsFramed, KeepsFrame}
+use Rattle.asm_core.specs.Frame.{RunsFramed, KeepsFrame}
 use Rattle.asm_core.specs.Lists.{IsMember, count_from}
 use Rattle.asm_core.specs.Parts.{IsParts}
 use Rattle.asm_core.specs.Pieces.{Scan, ArePieces, first_outside, form_code, is_missing, judged, pieces_in as listed_pieces, pieces_read, pieces_of}
@@ -19,14 +19,15 @@ use Rattle.asm_core.specs.TemplateForms.{forms_of}
 use Rattle.asm_core.specs.WellFormed.{IsInterface}
 use Rattle.asm_core.proofs.ReadingLaws.Law.{is_lettered}
 use Rattle.asm_core.proofs.ReadingLaws.PlacesThere.{IsFit, insts_fit}
-use Rattle.asm_core.specs.declared.constraint.TemplateForm.{TemplateForm}
 use Rattle.asm_core.specs.declared.finding.Cell.{Cell}
 use Rattle.asm_core.specs.declared.finding.Rule.{Rule}
+use Rattle.asm_core.specs.declared.flag.Flag.{Flag}
 use Rattle.asm_core.specs.declared.interface.Interface.{Interface}
 use Rattle.asm_core.specs.declared.interface.OperandIface.{OperandIface}
 use Rattle.asm_core.specs.declared.lines.Graph.{Graph}
 use Rattle.asm_core.specs.declared.lines.Lines.{Lines}
 use Rattle.asm_core.specs.declared.machine.Machine.{Machine}
+use Rattle.asm_core.specs.declared.memory.Memory.{Memory}
 use Rattle.asm_core.specs.declared.piece.Piece.{Piece}
 use Rattle.asm_core.specs.declared.piece.PiecesEnd.{PiecesEnd}
 use Rattle.asm_core.specs.declared.placement.Placement.{Placement}
@@ -57,7 +58,7 @@ use Rattle.blk_check.specs.Proven.{Proven}
 use Rattle.blk_check.specs.declared.verdict.Verdict.{Verdict}
 use Rattle.blk_check.specs.Judged.{IsVerdict, IsInterfaceOf, IsProof}
 use Rattle.blk_check.specs.Readable.{parts_pieces, pieces_in, pieces_or_none}
-use Rattle.blk_check.specs.Framed.{KeepsFrameIfOk}
+use Rattle.blk_check.specs.Framed.{IsFramedBlock, IsFramedIfOk}
 use Rattle.blk_check.proofs.AcceptedLaws.{IsClean, IsUnder, IsCleared, accepted_cleared, unbroken, under_each}
 use Rattle.blk_check.proofs.PieceLaws.{name_count}
 
@@ -104,9 +105,6 @@ byte_rule_listed i k lt =
 -- ---- a clean statement
 
 module _ (s : Statement) (i : Interface) (interface : IsInterface i) (of : IsInterfaceOf i s) (c : IsClean s i) where
-  pieces : List Piece
-  pieces = pieces_in s.body
-
   listed : pieces_in s.body ≡ of.pieces
   listed = ap pieces_in of.has_parts ∙ ap pieces_or_none of.has_pieces
 
@@ -175,22 +173,24 @@ module _ (s : Statement) (i : Interface) (interface : IsInterface i) (of : IsInt
 
   keeps : KeepsFrame i (pieces_in s.body)
   keeps = record {
-    each = λ shape p unique member allowed small. (placed_code p (u shape p member allowed).graph, (code_kept shape p member allowed unique small, runs shape p member allowed));
+    each = λ shape p unique member allowed small. (placed_code p (u shape p member allowed).graph, code_kept shape p member allowed unique small, runs shape p member allowed);
   }
 
 -- each accepted statement keeps the frame
-pub accepted_keeps_frame : (s : Statement) (i : Interface) (p : Proven) → IsInterface i → IsInterfaceOf i s → IsVerdict s i (Verdict.Ok p) → KeepsFrame i (pieces_in s.body)
-accepted_keeps_frame s i p interface of verdict = keeps s i interface of (accepted_cleared s i p verdict).clean
+pub accepted_is_framed : (s : Statement) (i : Interface) (p : Proven) → IsInterface i → IsInterfaceOf i s → IsVerdict s i (Verdict.Ok p) → IsFramedBlock i (pieces_in s.body)
+accepted_is_framed s i p interface of verdict =
+    let clean = (accepted_cleared s i p verdict).clean in
+    record { room = clean.room; keeps = keeps s i interface of clean }
 
-verdict_kept : (s : Statement) (i : Interface) (v : Verdict) → IsInterface i → IsInterfaceOf i s → IsVerdict s i v → KeepsFrameIfOk v
-verdict_kept s i (Verdict.Ok p) interface of verdict =
+verdict_framed : (s : Statement) (i : Interface) (v : Verdict) → IsInterface i → IsInterfaceOf i s → IsVerdict s i v → IsFramedIfOk v
+verdict_framed s i (Verdict.Ok p) interface of verdict =
     let proof = (accepted_cleared s i p verdict).proof in
-    subst (λ (t : Statement). KeepsFrame p.interface (pieces_in t.body)) (sym proof.statement)
-    (subst (λ j. KeepsFrame j (pieces_in s.body)) (sym proof.interface) (accepted_keeps_frame s i p interface of verdict))
-verdict_kept s i (Verdict.Broken findings) interface of verdict = tt
-verdict_kept s i (Verdict.Outside mark) interface of verdict = tt
+    subst (λ (t : Statement). IsFramedBlock p.interface (pieces_in t.body)) (sym proof.statement)
+    (subst (λ j. IsFramedBlock j (pieces_in s.body)) (sym proof.interface) (accepted_is_framed s i p interface of verdict))
+verdict_framed s i (Verdict.Broken findings) interface of verdict = tt
+verdict_framed s i (Verdict.Outside mark) interface of verdict = tt
 
 -- so an answer that is a verdict says it of its proof
-pub answer_kept : (s : Statement) (i : Interface) (r : Result Verdict Memory) → IsInterface i → IsInterfaceOf i s → IfOk r (IsVerdict s i) → IfOk r KeepsFrameIfOk
-answer_kept s i (Ok v) interface of verdict = verdict_kept s i v interface of verdict
-answer_kept s i (Err end) interface of verdict = tt
+pub answer_framed : (s : Statement) (i : Interface) (r : Result Verdict Memory) → IsInterface i → IsInterfaceOf i s → IfOk r (IsVerdict s i) → IfOk r IsFramedIfOk
+answer_framed s i (Ok v) interface of verdict = verdict_framed s i v interface of verdict
+answer_framed s i (Err end) interface of verdict = tt

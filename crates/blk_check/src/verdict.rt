@@ -1,7 +1,7 @@
 ghost use Rattle.std.specs.Prelude.{◌≡◌, [], All, IfOk};
 ghost use Rattle.asm_core.specs.Shape.{shapes_of};
 ghost use Rattle.asm_core.specs.WellFormed.{IsInterface};
-ghost use Rattle.blk_check.specs.Framed.{KeepsFrameIfOk};
+ghost use Rattle.blk_check.specs.Framed.{IsFramedIfOk};
 ghost use Rattle.blk_check.specs.Judged.{AnyHasRoom, IsInterfaceOf, IsVerdict, IsShapesVerdict, IsLiveVerdict, IsReadVerdict, IsBlocksVerdict, IsPathsVerdict, IsAccepted, graphs_of, shapes_mark, lines_mark, no_room};
 ghost use Rattle.blk_deps.specs.Findings.{AreFindings, IsStackBroken, stack_violations};
 ghost use Rattle.blk_check.specs.Readable.{IsShort, first_unread};
@@ -75,12 +75,12 @@ pub enum Verdict {
 /// Judges a statement by its interface. What is accepted keeps the frame: under every placement of its operands that
 /// the constraints allow, after every number of steps, it has changed only declared outputs and clobbers (this project's
 /// own).
-#[tactic(auto, using(crate::proofs::FrameOfAccepted::answer_kept))]
+#[tactic(auto, using(crate::proofs::FrameOfAccepted::answer_framed))]
 pub fn check(alloc: Global, statement: &Statement, interface: &Interface) -> Result<Verdict, Memory>
     requires interface { IsInterface interface.now }
     requires stated { IsInterfaceOf interface.now statement.now }
     ensures verdict { IfOk result (IsVerdict statement.now interface.now) }
-    ensures framed { IfOk result KeepsFrameIfOk }
+    ensures framed { IfOk result IsFramedIfOk }
 {
     judge(alloc, statement, interface)
 }

@@ -13,13 +13,13 @@ use Rattle.asm_constraints.proofs.InterfaceLemmas.{interface_of-kept}
 use Rattle.asm_statement.specs.Statements.{statements_of}
 use Rattle.asm_statement.proofs.PartLaws.{all_kept}
 use Rattle.blk_check.specs.declared.verdict.Verdict.{Verdict}
-use Rattle.blk_check.proofs.FrameOfAccepted.{accepted_keeps_frame}
+use Rattle.blk_check.proofs.FrameOfAccepted.{accepted_is_framed}
 use Rattle.c_tokens.specs.declared.token.Token.{Token}
 use Rattle.c_words.specs.File.{File, file_of}
 use Rattle.c_scopes.specs.Seen.{Declared}
 use Rattle.c_decls.specs.Walk.{declarations_of}
 use Rattle.ck_app.proofs.JudgementLaws.{stated}
-use Rattle.ck_app.specs.Framed.{IsFramed, IsAcceptedBy, AcceptedAreFramed}
+use Rattle.ck_app.specs.Framed.{IsFramedIn, IsAcceptedBy, AcceptedAreFramed}
 use Rattle.ck_app.specs.Judgement.{operands_of, interface_in, IsVerdictBy, IsBodyVerdict, IsJudgement}
 
 member_of : {A : Type 0} (P : A → Type 0) (xs : List A) (x : A) → All P xs → IsMember x xs → P x
@@ -29,27 +29,27 @@ member_of P (y ∷ ys) x all (inr member) = member_of P ys x (All-tail P y ys al
 
 module _ (strict : Bool) (f : File) (seen : Declared) (s : Statement) where
   by_verdict : (parts : Parts) (i : Interface) (v : Verdict) → s.body ≡ Body.Parts parts → IsParts parts
-      → interface_in strict f seen parts ≡ Ok i → IsVerdictBy s (Ok i) v → IsAcceptedBy v → IsFramed strict f seen s
+      → interface_in strict f seen parts ≡ Ok i → IsVerdictBy s (Ok i) v → IsAcceptedBy v → IsFramedIn strict f seen s
   by_verdict parts i (Verdict.Ok p) body whole e verdict ok = record {
     parts = parts;
     has_parts = body;
     interface = i;
     has_interface = e;
-    keeps =
-        accepted_keeps_frame s i p (interface_of-kept parts (operands_of f seen parts) strict i whole e)
+    framed =
+        accepted_is_framed s i p (interface_of-kept parts (operands_of f seen parts) strict i whole e)
         (stated s parts (operands_of f seen parts) strict i body whole e) verdict;
   }
   by_verdict parts i (Verdict.Broken findings) body whole e verdict ok = absurd ok
   by_verdict parts i (Verdict.Outside mark) body whole e verdict ok = absurd ok
 
   by_interface : (parts : Parts) (r : Result Interface IfaceEnd) (v : Verdict) → s.body ≡ Body.Parts parts → IsParts parts
-      → interface_in strict f seen parts ≡ r → IsVerdictBy s r v → IsAcceptedBy v → IsFramed strict f seen s
+      → interface_in strict f seen parts ≡ r → IsVerdictBy s r v → IsAcceptedBy v → IsFramedIn strict f seen s
   by_interface parts (Ok i) v body whole e verdict ok = by_verdict parts i v body whole e verdict ok
   by_interface parts (Err (IfaceEnd.Outside mark)) v body whole e verdict ok = absurd (subst IsAcceptedBy verdict ok)
   by_interface parts (Err (IfaceEnd.Broken findings)) v body whole e verdict ok = absurd (subst IsAcceptedBy verdict ok)
   by_interface parts (Err IfaceEnd.Memory) v body whole e verdict ok = absurd verdict
 
-  by_body : (b : Body) (v : Verdict) → s.body ≡ b → IsBody b → IsBodyVerdict strict f seen s b v → IsAcceptedBy v → IsFramed strict f seen s
+  by_body : (b : Body) (v : Verdict) → s.body ≡ b → IsBody b → IsBodyVerdict strict f seen s b v → IsAcceptedBy v → IsFramedIn strict f seen s
   by_body (Body.Parts parts) v body whole verdict ok = by_interface parts (interface_in strict f seen parts) v body whole refl verdict ok
   by_body (Body.Outside mark) v body whole verdict ok = absurd (subst IsAcceptedBy verdict ok)
 
