@@ -1,219 +1,21 @@
--- A worked example of a state in which a block may begin, for the operands of
--- `asm("..." : "=m"(saved), "+rm"(counter), "=A"(product) : "2"(factor))`: an output in memory, one that is read too
--- and is in memory or in a register, an output of 8 bytes in the pair and an input tied to it.
-use Rattle.std.proofs.Common.{◌≡◌, ◌≢◌, ◌⊎◌, inl, inr, ℕ, zero, suc, ◌+◌, ◌/◌, ◌%◌, ◌^◌, ◌<◌, ◌≤◌, nat_le, nat_lt, ◌&&◌, pos, List, [], ◌∷◌, length, replicate, All, true, false, IsTrue, Option, None, Some, slice_get, slice_index_or, refl, ap, sym, subst, subst₂, ◌∙◌, arith}
+-- A worked example of a state in which a block may begin: `saved` is 4 of the 16 bytes of a range that all may reach,
+-- and the counter, which is changing, is a range of its own.
+use Rattle.std.proofs.Common.{◌≡◌, ◌≢◌, inl, inr, ℕ, zero, suc, ◌+◌, ◌%◌, ◌^◌, ◌<◌, ◌≤◌, nat_le, nat_lt, ◌&&◌, List, [], ◌∷◌, length, replicate, All, true, false, None, Some, slice_get, slice_index_or, refl, ap, sym, subst, ◌∙◌, arith}
 use Rattle.std.specs.List.{list_all}
 use Rattle.std.proofs.lemmas.Bool.{and_parts, and_from, ltb-true, leb-true, lt-ltb, le-leb}
 use Rattle.std.proofs.lemmas.Bool.Decides.{nat_tests}
-use Rattle.std.proofs.lemmas.Int.{ints}
 use Rattle.std.proofs.lemmas.List.Sums.{AllPass-from_list_all}
-use Rattle.asm_core.specs.Lists.{IsMember, AreApart}
-use Rattle.asm_core.specs.Reg.{reg_number, all_regs, no_regs, IsIn}
-use Rattle.asm_core.specs.Shape.{shapes_of}
-use Rattle.asm_core.specs.Placement.{spot_of, tie_root, value_registers, is_output, IsForm, Fits, HasOperand, IsAllowed}
+use Rattle.asm_core.specs.Lists.{IsMember}
+use Rattle.asm_core.specs.Placement.{spot_of}
 use Rattle.asm_core.specs.Machine.{covers, RangesApart, IsRange, IsMachine}
 use Rattle.asm_core.specs.Memory.{address_of}
 use Rattle.asm_core.specs.Entry.{IsChanging, HasObject, HoldsObjectByte, IsEntry}
-use Rattle.asm_core.specs.declared.reg.Reg.{Reg}
-use Rattle.asm_core.specs.declared.shape.Kind.{Kind}
-use Rattle.asm_core.specs.declared.shape.Shape.{Shape}
-use Rattle.asm_core.specs.declared.interface.Role.{Role}
-use Rattle.asm_core.specs.declared.interface.AltIface.{AltIface}
 use Rattle.asm_core.specs.declared.interface.OperandIface.{OperandIface}
-use Rattle.asm_core.specs.declared.interface.Interface.{Interface}
-use Rattle.asm_core.specs.declared.placement.Base.{Base}
 use Rattle.asm_core.specs.declared.placement.Form.{Form}
 use Rattle.asm_core.specs.declared.placement.Spot.{Spot}
-use Rattle.asm_core.specs.declared.placement.Placement.{Placement}
 use Rattle.asm_core.specs.declared.machine.Range.{Range}
 use Rattle.asm_core.specs.declared.machine.Machine.{Machine}
-use Rattle.std.proofs.Math.Nat.{zero-div}
-
--- ---- the interface
-
-abbrev no_letter : AltIface
-no_letter = record { early = false; tied = None; regs = no_regs; pair = false; mem = false; numbers = None }
-
-abbrev operand : Role → ℕ → AltIface → OperandIface
-operand role size alt = record { role = role; size = size; pointer = false; known = None; flag = None; alts = alt ∷ [] }
-
-abbrev saved : OperandIface
-saved = operand Role.Out 4 (record no_letter { mem = true })
-
-abbrev counter_letters : AltIface
-counter_letters = record no_letter { regs = all_regs; mem = true }
-
-abbrev counter : OperandIface
-counter = operand Role.InOut 4 counter_letters
-
-abbrev product : OperandIface
-product = operand Role.Out 8 (record no_letter { pair = true })
-
-abbrev factor : OperandIface
-factor = operand Role.In 8 (record no_letter { tied = Some 2 })
-
-abbrev pub example : Interface
-example = record { operands = saved ∷ counter ∷ product ∷ factor ∷ []; clobbers = no_regs; cc = false; memory = false }
-
-found : (P : OperandIface → Type 0) (q o : OperandIface) → P q → Some q ≡ Some o → P o
-found P q o holds is = let same : q ≡ o = cc in subst P same holds
-
--- what holds of each operand
-each_operand : (P : ℕ → OperandIface → Type 0) → P 0 saved → P 1 counter → P 2 product → P 3 factor
-    → (k : ℕ) (o : OperandIface) → slice_get example.operands k ≡ Some o → P k o
-each_operand P a b c d zero o is = found (P 0) saved o a is
-each_operand P a b c d (suc zero) o is = found (P 1) counter o b is
-each_operand P a b c d (suc (suc zero)) o is = found (P 2) product o c is
-each_operand P a b c d (suc (suc (suc zero))) o is = found (P 3) factor o d is
-each_operand P a b c d (suc (suc (suc (suc k)))) o is = cc
-
--- the counter in a register, and in memory
-abbrev shape_with : Kind → Shape
-shape_with kind = record { alternative = 0; kinds = Kind.Memory ∷ kind ∷ Kind.Register ∷ Kind.Register ∷ [] }
-
-abbrev pub memory_shape : Shape
-memory_shape = shape_with Kind.Memory
-
-its_shapes : shapes_of example ≡ shape_with Kind.Register ∷ memory_shape ∷ []
-its_shapes = refl
-
--- ---- its placements
-
--- `8(%esp)` and `1048576`
-abbrev stack_slot : Form
-stack_slot = record { disp = pos 8; base = Some Base.Esp; index = None }
-
-abbrev global : Form
-global = record { disp = pos 1048576; base = None; index = None }
-
-abbrev placement_with : Spot → Placement
-placement_with spot = record {
-  spots = Spot.Memory stack_slot ∷ spot ∷ Spot.Pair ∷ Spot.Pair ∷ replicate 26 (Spot.Number (pos 0));
-  count = 4;
-}
-
-abbrev pub memory_placement : Placement
-memory_placement = placement_with (Spot.Memory global)
-
-unclobbered : (r : Reg) → IsIn no_regs r → ⊥
-unclobbered r h = let none : 0 / 2 ^ reg_number r ≡ 0 = zero-div (2 ^ reg_number r) in omega (arith, h, none)
-
-fit_for : (o : OperandIface) (at : Spot) (a alt : AltIface) (kind found : Kind) → Some a ≡ Some alt
-    → Some kind ≡ Some found → Fits example o a kind at → Fits example o alt found at
-fit_for o at a alt kind found is_alt is_kind fit =
-    let first : a ≡ alt = cc in
-    let second : kind ≡ found = cc in
-    subst₂ (λ b q. Fits example o b q at) first second fit
-
-late_as : (a alt : AltIface) → Some a ≡ Some alt → a.early ≡ false → alt.early ≡ false
-late_as a alt is late = let same : a ≡ alt = cc in subst (λ (b : AltIface). b.early ≡ false) same late
-
-module _ (kind : Kind) (spot : Spot) (fit : Fits example counter counter_letters kind spot)
-    (beside_pair : AreApart (value_registers spot) (Reg.Eax ∷ Reg.Edx ∷ [])) where
-  abbrev p : Placement
-  p = placement_with spot
-
-  -- an untied alternative lets the operand be where it is
-  abbrev Stands : ℕ → OperandIface → Type 0
-  Stands k o = (alt : AltIface) (found : Kind) → slice_get o.alts 0 ≡ Some alt
-      → slice_get (shape_with kind).kinds k ≡ Some found → alt.tied ≡ None → Fits example o alt found (spot_of p k)
-
-  stands : (k : ℕ) (o : OperandIface) → slice_get example.operands k ≡ Some o → Stands k o
-  stands = each_operand Stands
-      (λ alt found is_alt is_kind untied. fit_for saved (spot_of p 0) _ alt _ found is_alt is_kind
-      (record { low = omega (arith, ints); high = omega (arith, ints); scale = λ x e. cc }, λ r member. absurd member))
-      (λ alt found is_alt is_kind untied. fit_for counter spot _ alt _ found is_alt is_kind fit)
-      (λ alt found is_alt is_kind untied. fit_for product (spot_of p 2) _ alt _ found is_alt is_kind
-      (refl, λ r member. unclobbered r))
-      (λ alt found is_alt is_kind untied. let same : record no_letter { tied = Some 2 } ≡ alt = cc in
-      let wrong : Some 2 ≡ alt.tied = ap (λ (a : AltIface). a.tied) same in cc)
-
-  abbrev IsLate : ℕ → OperandIface → Type 0
-  IsLate k o = (alt : AltIface) → slice_get o.alts 0 ≡ Some alt → alt.early ≡ false
-
-  late : (k : ℕ) (o : OperandIface) → slice_get example.operands k ≡ Some o → IsLate k o
-  late = each_operand IsLate (λ alt is. late_as _ alt is refl) (λ alt is. late_as _ alt is refl)
-      (λ alt is. late_as _ alt is refl) (λ alt is. late_as _ alt is refl)
-
-  -- the factor is where the product is
-  ties : (k : ℕ) → spot_of p k ≡ spot_of p (tie_root example (shape_with kind) k)
-  ties zero = refl
-  ties (suc zero) = refl
-  ties (suc (suc zero)) = refl
-  ties (suc (suc (suc zero))) = refl
-  ties (suc (suc (suc (suc k)))) = refl
-
-  -- the registers of each output
-  abbrev Holds : ℕ → OperandIface → Type 0
-  Holds k o = IsTrue (is_output o.role) → (k ≡ 0) ⊎ (k ≡ 1) ⊎ (k ≡ 2)
-
-  outputs : (k : ℕ) (o : OperandIface) → slice_get example.operands k ≡ Some o → Holds k o
-  outputs = each_operand Holds (λ out. inl refl) (λ out. inr (inl refl)) (λ out. inr (inr refl)) (λ out. cc)
-
-  apart : (k j : ℕ) → (k ≡ 0) ⊎ (k ≡ 1) ⊎ (k ≡ 2) → (j ≡ 0) ⊎ (j ≡ 1) ⊎ (j ≡ 2) → k ≢ j
-      → AreApart (value_registers (spot_of p k)) (value_registers (spot_of p j))
-  apart zero j is_k is_j differ = λ r first second. absurd first
-  apart (suc k) zero is_k is_j differ = λ r first second. absurd second
-  apart (suc zero) (suc zero) is_k is_j differ = absurd (differ refl)
-  apart (suc zero) (suc (suc zero)) is_k is_j differ = beside_pair
-  apart (suc (suc zero)) (suc zero) is_k is_j differ = λ r first second. beside_pair r second first
-  apart (suc (suc zero)) (suc (suc zero)) is_k is_j differ = absurd (differ refl)
-  apart (suc (suc (suc k))) (suc j) is_k is_j differ = absurd (omega (arith, is_k))
-  apart (suc zero) (suc (suc (suc j))) is_k is_j differ = absurd (omega (arith, is_j))
-  apart (suc (suc zero)) (suc (suc (suc j))) is_k is_j differ = absurd (omega (arith, is_j))
-
-  allowed : IsAllowed example (shape_with kind) p
-  allowed = record {
-    count = refl;
-    fits = λ k o alt found h. stands k o h.is_operand alt found h.is_alternative h.is_kind;
-    ties = ties;
-    outputs_apart = λ k j o q is_k is_j out_k out_j. apart k j (outputs k o is_k out_k) (outputs j q is_j out_j);
-    early_apart = λ k j o q alt found h is_j early differ.
-        let never : alt.early ≡ false = late k o h.is_operand alt h.is_alternative in cc;
-  }
-
-beside : AreApart (Reg.Ebx ∷ []) (Reg.Eax ∷ Reg.Edx ∷ [])
-beside r (inl e) (inl f) = cc
-beside r (inl e) (inr (inl f)) = cc
-beside r (inl e) (inr (inr none)) = none
-beside r (inr none) second = none
-
-pub in_register : IsAllowed example (shape_with Kind.Register) (placement_with (Spot.Register Reg.Ebx))
-in_register = allowed Kind.Register (Spot.Register Reg.Ebx) (refl, unclobbered Reg.Ebx) beside
-
-pub in_memory : IsAllowed example memory_shape memory_placement
-in_memory = allowed Kind.Memory (Spot.Memory global)
-    (record { low = omega (arith, ints); high = omega (arith, ints); scale = λ x e. cc }, λ r member. absurd member)
-    (λ r first second. absurd first)
-
--- ---- the counter is changing, and nothing else is
-
-pub counter_changes : IsChanging example 1
-counter_changes = record {
-  in_memory = (memory_shape, inr (inl refl), (memory_placement, in_memory), refl);
-  elsewhere = (shape_with Kind.Register, inl refl, (placement_with (Spot.Register Reg.Ebx), in_register), λ e. cc);
-}
-
-abbrev kind_in : Shape → ℕ → Option Kind
-kind_in s k = slice_get s.kinds k
-
-kinds_alike : (k : ℕ) → (k ≡ 1) ⊎ (kind_in (shape_with Kind.Register) k ≡ kind_in memory_shape k)
-kinds_alike zero = inr refl
-kinds_alike (suc zero) = inl refl
-kinds_alike (suc (suc k)) = inr refl
-
-kind_of : (k : ℕ) (s : Shape) → IsMember s (shapes_of example)
-    → kind_in (shape_with Kind.Register) k ≡ kind_in memory_shape k → kind_in s k ≡ kind_in memory_shape k
-kind_of k s (inl e) alike = ap (λ q. kind_in q k) e ∙ alike
-kind_of k s (inr (inl e)) alike = ap (λ q. kind_in q k) e
-kind_of k s (inr (inr none)) alike = absurd none
-
-pub only_counter : (k : ℕ) → IsChanging example k → k ≡ 1
-only_counter k c = elim (kinds_alike k) [
-  | inl first ↦ first
-  | inr alike ↦ absurd (c.elsewhere.3 (kind_of k c.elsewhere.0 c.elsewhere.1 alike
-      ∙ sym (kind_of k c.in_memory.0 c.in_memory.1 alike) ∙ c.in_memory.3))
-]
+use Rattle.blk_frame.proofs.ExampleOperands.{saved, counter, example, memory_shape, stack_slot, global, memory_placement, found, each_operand, counter_changes, only_counter}
 
 -- ---- the state
 
@@ -249,17 +51,15 @@ frame_apart a first second =
     let high = leb-true 1048576 a (and_parts (nat_le 1048576 a) (nat_lt a 1048580) second).0 in
     omega (arith, low, high)
 
+as_apart : (r q : Range) → Some stack_frame ≡ Some r → Some counter_object ≡ Some q → RangesApart r q
+as_apart r q first second =
+    found (RangesApart r) counter_object q (found (λ x. RangesApart x counter_object) stack_frame r frame_apart first) second
+
 ranges_apart : (j k : ℕ) (r q : Range) → slice_get entry.ranges j ≡ Some r → slice_get entry.ranges k ≡ Some q → j ≢ k
     → RangesApart r q
 ranges_apart zero zero r q at_j at_k differ = absurd (differ refl)
-ranges_apart zero (suc zero) r q at_j at_k differ =
-    let first : stack_frame ≡ r = cc in
-    let second : counter_object ≡ q = cc in
-    subst₂ RangesApart first second frame_apart
-ranges_apart (suc zero) zero r q at_j at_k differ = λ a in_r in_q.
-    let first : stack_frame ≡ q = cc in
-    let second : counter_object ≡ r = cc in
-    subst₂ RangesApart first second frame_apart a in_q in_r
+ranges_apart zero (suc zero) r q at_j at_k differ = as_apart r q at_j at_k
+ranges_apart (suc zero) zero r q at_j at_k differ = λ a in_r in_q. as_apart q r at_k at_j a in_q in_r
 ranges_apart (suc zero) (suc zero) r q at_j at_k differ = absurd (differ refl)
 ranges_apart (suc (suc j)) k r q at_j at_k differ = cc
 ranges_apart j (suc (suc k)) r q at_j at_k differ = cc

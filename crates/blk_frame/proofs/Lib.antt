@@ -43,3 +43,5 @@ pub mod WayThere
 pub mod Stable
 pub mod RunInduction
 pub mod SettingsThere
+pub mod ExampleOperands
+pub mod EntryExample
