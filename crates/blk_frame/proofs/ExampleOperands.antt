@@ -1,7 +1,7 @@
 -- The operands of `asm("..." : "=m"(saved), "+rm"(counter), "=A"(product) : "2"(factor))`, for the example of an entry:
 -- an output in memory, an operand that is read too and is in memory or in a register, an output of 8 bytes in the
 -- pair, and an input tied to it. Its two shapes have allowed placements, and the counter alone is changing.
-use Rattle.std.proofs.Common.{◌≡◌, ◌≢◌, ◌⊎◌, inl, inr, ℕ, zero, suc, ◌/◌, ◌^◌, ◌≤◌, pos, ◌≤ℤ◌, List, [], ◌∷◌, length, replicate, Bool, true, false, IsTrue, Option, None, Some, slice_get, refl, ap, sym, subst, ◌∙◌, arith}
+use Rattle.std.proofs.Common.{◌≡◌, ◌≢◌, ◌⊎◌, inl, inr, ℕ, zero, suc, ◌/◌, ◌^◌, ◌<◌, ◌≤◌, pos, ◌≤ℤ◌, List, [], ◌∷◌, length, replicate, Bool, true, false, IsTrue, Option, None, Some, slice_get, refl, ap, sym, subst, ◌∙◌, arith}
 use Rattle.std.proofs.Math.Nat.{zero-div}
 use Rattle.std.proofs.lemmas.Int.{ints}
 use Rattle.asm_core.specs.Lists.{IsMember, AreApart}
@@ -9,6 +9,7 @@ use Rattle.asm_core.specs.Reg.{reg_number, all_regs, no_regs, IsIn}
 use Rattle.asm_core.specs.Shape.{shapes_of}
 use Rattle.asm_core.specs.Placement.{spot_of, tie_root, value_registers, is_output, IsForm, Fits, IsAllowed}
 use Rattle.asm_core.specs.Entry.{IsChanging}
+use Rattle.asm_core.specs.WellFormed.{IsTie, IsInterface}
 use Rattle.asm_core.specs.declared.reg.Reg.{Reg}
 use Rattle.asm_core.specs.declared.shape.Kind.{Kind}
 use Rattle.asm_core.specs.declared.shape.Shape.{Shape}
@@ -69,6 +70,55 @@ memory_shape = shape_with Kind.Memory
 
 its_shapes : shapes_of example ≡ shape_with Kind.Register ∷ memory_shape ∷ []
 its_shapes = refl
+
+-- ---- it is well formed
+
+only_alternative : (P : ℕ → AltIface → Type 0) (first : AltIface) → P 0 first
+    → (a : ℕ) (alt : AltIface) → slice_get (first ∷ []) a ≡ Some alt → P a alt
+only_alternative P first holds zero alt is = found (P 0) first alt holds is
+only_alternative P first holds (suc a) alt is = cc
+
+-- a tie leads to an output, and nothing is early or a number
+abbrev IsWell : ℕ → OperandIface → ℕ → AltIface → Type 0
+IsWell k o a alt = ((output : ℕ) → alt.tied ≡ Some output → IsTie example k a output o alt)
+    × (alt.early ≡ false) × (alt.numbers ≡ None) × (alt.regs.0 < 128)
+
+factor_tied : IsTie example 3 0 2 factor (record no_letter { tied = Some 2 })
+factor_tied = record {
+  before = omega arith;
+  to = record {
+    operand = product;
+    alternative = record no_letter { pair = true };
+    is_there = record { is_operand = refl; is_alternative = refl };
+    output = refl;
+    untied = refl;
+  };
+  input_alone = refl;
+  not_early = refl;
+}
+
+well : (k : ℕ) (o : OperandIface) → slice_get example.operands k ≡ Some o
+    → (a : ℕ) (alt : AltIface) → slice_get o.alts a ≡ Some alt → IsWell k o a alt
+well = each_operand (λ k o. (a : ℕ) (alt : AltIface) → slice_get o.alts a ≡ Some alt → IsWell k o a alt)
+    (only_alternative (IsWell 0 saved) _ (λ output is. cc, refl, refl, omega arith))
+    (only_alternative (IsWell 1 counter) _ (λ output is. cc, refl, refl, omega arith))
+    (only_alternative (IsWell 2 product) _ (λ output is. cc, refl, refl, omega arith))
+    (only_alternative (IsWell 3 factor) _ (λ output is. let same : 2 ≡ output = cc in
+    subst (λ n. IsTie example 3 0 n factor (record no_letter { tied = Some 2 })) same factor_tied, refl, refl, omega arith))
+
+one_alternative : (k : ℕ) (o : OperandIface) → slice_get example.operands k ≡ Some o → length o.alts ≡ 1
+one_alternative = each_operand (λ k o. length o.alts ≡ 1) refl refl refl refl
+
+pub is_interface : IsInterface example
+is_interface = record {
+  few = omega arith;
+  counts = λ k j o q is_k is_j. one_alternative k o is_k ∙ sym (one_alternative j q is_j);
+  ties = λ k a output o alt h is. (well k o h.is_operand a alt h.is_alternative).0 output is;
+  early = λ k a o alt h early. let never : alt.early ≡ false = (well k o h.is_operand a alt h.is_alternative).1 in cc;
+  numbers = λ k a o alt range h is.
+      let none : alt.numbers ≡ None = (well k o h.is_operand a alt h.is_alternative).2 in cc;
+  registers = λ k a o alt h. (well k o h.is_operand a alt h.is_alternative).3;
+}
 
 -- ---- its placements
 
