@@ -53,7 +53,8 @@ frame_apart a first second =
 
 as_apart : (r q : Range) → Some stack_frame ≡ Some r → Some counter_object ≡ Some q → RangesApart r q
 as_apart r q first second =
-    found (RangesApart r) counter_object q (found (λ x. RangesApart x counter_object) stack_frame r frame_apart first) second
+    found (RangesApart r) counter_object q
+    (found (λ x. RangesApart x counter_object) stack_frame r frame_apart first) second
 
 ranges_apart : (j k : ℕ) (r q : Range) → slice_get entry.ranges j ≡ Some r → slice_get entry.ranges k ≡ Some q → j ≢ k
     → RangesApart r q
@@ -122,13 +123,18 @@ HasBytes k o = (address j : ℕ) → Object k o address → j < o.size
 
 objects : (k : ℕ) (o : OperandIface) → slice_get example.operands k ≡ Some o → HasBytes k o
 objects = each_operand HasBytes
-    (λ address j object below. (λ still. byte_in stack_frame 0 saved stack_slot (inl refl) refl refl
-    (λ n lt. covered stack_frame ((4104 + n) % 2 ^ 32) (omega (arith, lt)) (omega (arith, lt))) address j object below,
-    λ moves. absurd (omega (arith, only_counter 0 moves))))
-    (λ address j object below. (λ still. absurd (still counter_changes),
-    λ moves. byte_in counter_object 1 counter global (inr (inl refl)) refl refl
-    (λ n lt. covered counter_object ((1048576 + n) % 2 ^ 32) (omega (arith, lt)) (omega (arith, lt)))
-    address j object below))
+    (λ address j object below. (
+      λ still. byte_in stack_frame 0 saved stack_slot (inl refl) refl refl
+          (λ n lt. covered stack_frame ((4104 + n) % 2 ^ 32) (omega (arith, lt)) (omega (arith, lt)))
+          address j object below,
+      λ moves. absurd (omega (arith, only_counter 0 moves)),
+    ))
+    (λ address j object below. (
+      λ still. absurd (still counter_changes),
+      λ moves. byte_in counter_object 1 counter global (inr (inl refl)) refl refl
+          (λ n lt. covered counter_object ((1048576 + n) % 2 ^ 32) (omega (arith, lt)) (omega (arith, lt)))
+          address j object below,
+    ))
     (λ address j object below. cc (object.in_memory.1))
     (λ address j object below. cc (object.in_memory.1))
 

@@ -1,7 +1,7 @@
 -- The operands of `asm("..." : "=m"(saved), "+rm"(counter), "=A"(product) : "2"(factor))`, for the example of an entry:
 -- an output in memory, an operand that is read too and is in memory or in a register, an output of 8 bytes in the
 -- pair, and an input tied to it. Its two shapes have allowed placements, and the counter alone is changing.
-use Rattle.std.proofs.Common.{◌≡◌, ◌≢◌, ◌⊎◌, inl, inr, ℕ, zero, suc, ◌/◌, ◌^◌, ◌<◌, ◌≤◌, pos, ◌≤ℤ◌, List, [], ◌∷◌, length, replicate, Bool, true, false, IsTrue, Option, None, Some, slice_get, refl, ap, sym, subst, ◌∙◌, arith}
+use Rattle.std.proofs.Common.{◌≡◌, ◌≢◌, ◌⊎◌, inl, inr, ℕ, zero, suc, ◌/◌, ◌^◌, ◌<◌, ◌≤◌, pos, [], ◌∷◌, length, replicate, true, false, IsTrue, Option, None, Some, slice_get, refl, ap, sym, subst, ◌∙◌, arith}
 use Rattle.std.proofs.Math.Nat.{zero-div}
 use Rattle.std.proofs.lemmas.Int.{ints}
 use Rattle.asm_core.specs.Lists.{IsMember, AreApart}
@@ -9,7 +9,7 @@ use Rattle.asm_core.specs.Reg.{reg_number, all_regs, no_regs, IsIn}
 use Rattle.asm_core.specs.Shape.{shapes_of}
 use Rattle.asm_core.specs.Placement.{spot_of, tie_root, value_registers, is_output, IsForm, Fits, IsAllowed}
 use Rattle.asm_core.specs.Entry.{IsChanging}
-use Rattle.asm_core.specs.WellFormed.{IsTie, IsInterface}
+use Rattle.asm_core.specs.WellFormed.{IsUntiedOutput, IsTie, IsInterface}
 use Rattle.asm_core.specs.declared.reg.Reg.{Reg}
 use Rattle.asm_core.specs.declared.shape.Kind.{Kind}
 use Rattle.asm_core.specs.declared.shape.Shape.{Shape}
@@ -30,6 +30,7 @@ no_letter = record { early = false; tied = None; regs = no_regs; pair = false; m
 abbrev operand : Role → ℕ → AltIface → OperandIface
 operand role size alt = record { role = role; size = size; pointer = false; known = None; flag = None; alts = alt ∷ [] }
 
+-- `m`, `rm`, `A` (the pair, for 8 bytes) and the tie `2`
 abbrev pub saved : OperandIface
 saved = operand Role.Out 4 (record no_letter { mem = true })
 
@@ -83,19 +84,18 @@ abbrev IsWell : ℕ → OperandIface → ℕ → AltIface → Type 0
 IsWell k o a alt = ((output : ℕ) → alt.tied ≡ Some output → IsTie example k a output o alt)
     × (alt.early ≡ false) × (alt.numbers ≡ None) × (alt.regs.0 < 128)
 
-factor_tied : IsTie example 3 0 2 factor (record no_letter { tied = Some 2 })
-factor_tied = record {
-  before = omega arith;
-  to = record {
-    operand = product;
-    alternative = record no_letter { pair = true };
-    is_there = record { is_operand = refl; is_alternative = refl };
-    output = refl;
-    untied = refl;
-  };
-  input_alone = refl;
-  not_early = refl;
+product_is_output : IsUntiedOutput example 2 0
+product_is_output = record {
+  operand = product;
+  alternative = record no_letter { pair = true };
+  is_there = record { is_operand = refl; is_alternative = refl };
+  output = refl;
+  untied = refl;
 }
+
+factor_tied : (output : ℕ) → Some 2 ≡ Some output → IsTie example 3 0 output factor (record no_letter { tied = Some 2 })
+factor_tied output = found (λ n. IsTie example 3 0 n factor (record no_letter { tied = Some 2 })) 2 output
+    (record { before = omega arith; to = product_is_output; input_alone = refl; not_early = refl })
 
 well : (k : ℕ) (o : OperandIface) → slice_get example.operands k ≡ Some o
     → (a : ℕ) (alt : AltIface) → slice_get o.alts a ≡ Some alt → IsWell k o a alt
@@ -103,8 +103,7 @@ well = each_operand (λ k o. (a : ℕ) (alt : AltIface) → slice_get o.alts a �
     (only_alternative (IsWell 0 saved) _ (λ output is. cc, refl, refl, omega arith))
     (only_alternative (IsWell 1 counter) _ (λ output is. cc, refl, refl, omega arith))
     (only_alternative (IsWell 2 product) _ (λ output is. cc, refl, refl, omega arith))
-    (only_alternative (IsWell 3 factor) _ (λ output is. let same : 2 ≡ output = cc in
-    subst (λ n. IsTie example 3 0 n factor (record no_letter { tied = Some 2 })) same factor_tied, refl, refl, omega arith))
+    (only_alternative (IsWell 3 factor) _ (factor_tied, refl, refl, omega arith))
 
 one_alternative : (k : ℕ) (o : OperandIface) → slice_get example.operands k ≡ Some o → length o.alts ≡ 1
 one_alternative = each_operand (λ k o. length o.alts ≡ 1) refl refl refl refl
@@ -164,7 +163,8 @@ module _ (kind : Kind) (spot : Spot) (fit : Fits example counter counter_letters
 
   stands : (k : ℕ) (o : OperandIface) → slice_get example.operands k ≡ Some o → Stands k o
   stands = each_operand Stands
-      (λ alt q. as_found 0 saved _ alt _ q (refl, λ untied. (is_form 8 (Some Base.Esp) (omega arith), λ r is. absurd is)))
+      (λ alt q. as_found 0 saved _ alt _ q
+      (refl, λ untied. (is_form 8 (Some Base.Esp) (omega arith), λ r is. absurd is)))
       (λ alt q. as_found 1 counter _ alt _ q (refl, λ untied. fit))
       (λ alt q. as_found 2 product _ alt _ q (refl, λ untied. (refl, λ r is. unclobbered r)))
       (λ alt q. as_found 3 factor _ alt _ q (refl, λ untied. cc))
