@@ -117,7 +117,7 @@ module _ (s : Statement) (i : Interface) (interface : IsInterface i) (of : IsInt
       subst (λ n. ArePieces n (pieces_in s.body)) (name_count parts ∙ sym of.count) (subst (ArePieces (length ns)) (sym listed) read)
 
   none : NoneBroken i c.live c.graphs
-  none = record { each = λ b line member broken. unbroken (IsBroken i c.live c.graphs) (violations_of i) c.kept b member line broken }
+  none = record { each = λ b line member asked broken. unbroken (IsBroken i c.live c.graphs) (violations_of i) c.kept b member line broken }
 
   module _ (shape : Shape) (p : Placement) (member : IsMember shape (shapes_of i)) (allowed : IsAllowed i shape p) where
     u : IsUnder s i c.live c.graphs shape
@@ -160,7 +160,7 @@ module _ (s : Statement) (i : Interface) (interface : IsInterface i) (of : IsInt
         (λ no. settled (λ depths shares is.
         no (code_there i shape p interface allowed (pieces_in s.body) u.lines u.graph u.under u.of_lines.lines unique shares pieces_there small u.of_lines.is is.shares
         (keeps_u2 i c.live c.graphs u.number shape u.graph u.is_shape u.is_graph depths shares is
-        (λ k line lt broken. none.each (alone Rule.U2 (Cell.Operand k)) line (byte_rule_listed i k lt) broken)))))
+        (λ k line lt broken. none.each (alone Rule.U2 (Cell.Operand k)) line (byte_rule_listed i k lt) refl broken)))))
 
     runs : RunsFramed i shape p (placed_code p u.graph)
     runs = record {

@@ -54,3 +54,5 @@ pub mod BlockRuns
 pub mod LoneRows
 pub mod LoneEntries
 pub mod SetsOnce
+pub mod ExampleOperands
+pub mod EntryExample

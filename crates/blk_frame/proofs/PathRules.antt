@@ -1,5 +1,5 @@
--- Where no rule of paths is broken, the facts of each path break none.
-use Rattle.std.proofs.Common.{◌≡◌, ℕ, List, Some, slice_get, slice_index, refl}
+-- Where no rule of paths that is asked is broken, the facts of each path break none.
+use Rattle.std.proofs.Common.{◌≡◌, ℕ, ◌&&◌, Bool, true, false, List, Some, slice_get, slice_index, refl}
 use Rattle.std.proofs.lemmas.Bool.{false_from_ne_true}
 use Rattle.asm_core.specs.declared.lines.Graph.{Graph}
 use Rattle.asm_core.specs.declared.sym.Sym.{Sym}
@@ -8,7 +8,11 @@ use Rattle.blk_deps.specs.Ways.{size_of, goes, line_number}
 use Rattle.blk_deps.specs.Findings.{Setting, BreaksAt, IsBroken}
 use Rattle.blk_deps.specs.Rules.{breaks_at_line, breaks_at_end}
 use Rattle.blk_deps.specs.declared.violation.Violation.{Violation}
-use Rattle.blk_frame.specs.Accepted.{NoneBroken, EndsSound, PassesSound, IsShapeOf, facts_on}
+use Rattle.blk_frame.specs.Accepted.{is_asked, NoneBroken, EndsSound, PassesSound, IsShapeOf, facts_on}
+
+unbroken : (asked broken : Bool) → (asked ≡ true → broken ≡ true → ⊥) → (asked && broken) ≡ false
+unbroken true broken denied = false_from_ne_true broken (denied refl)
+unbroken false broken denied = refl
 
 module _ (x : Setting) (graphs : List Graph) (number : ℕ) (is : IsShapeOf x graphs number)
     (none : NoneBroken x.interface x.live graphs) where
@@ -31,9 +35,9 @@ module _ (x : Setting) (graphs : List Graph) (number : ℕ) (is : IsShapeOf x gr
   pub end_sound : (path : List ℕ) → IsPathTo (size_of x.graph) (goes x.graph) path (size_of x.graph)
       → EndsSound x.interface x.shape (facts_on x path)
   end_sound path to = record {
-    each = λ b member. false_from_ne_true
+    each = λ b member. unbroken (is_asked b.rule)
         (breaks_at_end x.interface x.shape b (facts_on x path))
-        (λ broken. none.each b (line_number x.graph (size_of x.graph)) member
+        (λ asked broken. none.each b (line_number x.graph (size_of x.graph)) member asked
         (broken_at b (size_of x.graph) (BreaksAt.at_end (path, to, broken))));
   }
 
@@ -41,8 +45,8 @@ module _ (x : Setting) (graphs : List Graph) (number : ℕ) (is : IsShapeOf x gr
       → IsPathTo (size_of x.graph) (goes x.graph) path n
       → PassesSound x.interface x.live x.shape (slice_index x.depths n) line (facts_on x path)
   pass_sound path n line at to = record {
-    each = λ b member. false_from_ne_true
+    each = λ b member. unbroken (is_asked b.rule)
         (breaks_at_line x.interface x.live x.shape (slice_index x.depths n) line b (facts_on x path))
-        (λ broken. none.each b (line_number x.graph n) member
+        (λ asked broken. none.each b (line_number x.graph n) member asked
         (broken_at b n (BreaksAt.at_line n line at (path, to, broken))));
   }

@@ -1,6 +1,6 @@
 -- Where an instruction breaks no rule, its stores are to outputs, its memory operands are reached while nothing is
 -- pushed, and memory that is no operand's is declared.
-use Rattle.std.proofs.Common.{◌≡◌, inl, ℕ, ◌==◌, ◌&&◌, ◌||◌, not, Bool, true, false, List, [], ◌∷◌, ◌++◌, refl, ap, ◌∙◌}
+use Rattle.std.proofs.Common.{◌≡◌, inl, ℕ, ◌==◌, ◌&&◌, ◌||◌, not, Bool, true, false, List, [], ◌∷◌, ◌++◌, refl, sym, ap, ◌∙◌}
 use Rattle.std.specs.List.{list_any}
 use Rattle.std.proofs.lemmas.Bool.{both_ways, and_from, or_left, or_right, or_parts, false_from_ne_true, true_from_ne_false, not_from_false, eq-eqb, eqb-true}
 use Rattle.asm_core.specs.Lists.{IsMember}
@@ -17,11 +17,11 @@ use Rattle.asm_core.specs.Rows.{entry_row}
 use Rattle.blk_deps.specs.Facts.{Facts}
 use Rattle.blk_deps.specs.Operands.{numbers_in, is_output_at, is_changing}
 use Rattle.blk_deps.specs.Line.{accesses_in}
-use Rattle.blk_deps.specs.Rules.{used_at_line, is_written_address, is_of_operand, is_past, is_address_of, uses_address, breaks_by_access, breaks_by_use}
+use Rattle.blk_deps.specs.Rules.{used_at_line, is_written_address, is_of_operand, is_past, is_address_of, uses_address, breaks_by_access, breaks_by_use, breaks_at_line}
 use Rattle.blk_deps.specs.Findings.{alone, registers_alone, operands_alone, flags_alone, place_names, pairs_of, violations_of}
 use Rattle.blk_deps.specs.declared.violation.Violation.{Violation}
 use Rattle.blk_deps.specs.declared.fact.Fact.TheVariants.{Here}
-use Rattle.blk_frame.specs.Accepted.{PassesSound}
+use Rattle.blk_frame.specs.Accepted.{is_asked, PassesSound}
 use Rattle.blk_frame.proofs.Members.{any_in, in_front, in_back, in_map}
 
 -- ---- the list of rules
@@ -88,19 +88,20 @@ of_operand a k there = ap (is_of_operand k) there ∙ eq-eqb k k refl
 
 module _ (i : Interface) (live : List Shape) (s : Shape) (depth : ℕ) (line : Sym) (facts : Facts)
     (sound : PassesSound i live s depth line facts) (here : facts Here ≡ true) where
-  unbroken : (b : Violation) → IsMember b (violations_of i)
+  unbroken : (b : Violation) → IsMember b (violations_of i) → is_asked b.rule ≡ true
       → breaks_by_access i live depth line b.rule b.cell ≡ false
-  unbroken b is = false_from_ne_true (breaks_by_access i live depth line b.rule b.cell) (λ broken.
+  unbroken b is asked = false_from_ne_true (breaks_by_access i live depth line b.rule b.cell) (λ broken.
       both_ways (breaks_by_access i live depth line b.rule b.cell && facts Here)
       (or_parts (breaks_by_access i live depth line b.rule b.cell && facts Here)
-      (breaks_by_use i s b.rule b.cell b.other (used_at_line i s depth line facts)) (sound.each b is)).0
+      (breaks_by_use i s b.rule b.cell b.other (used_at_line i s depth line facts))
+      (sym (ap (λ known. known && breaks_at_line i live s depth line b facts) asked) ∙ sound.each b is)).0
       (and_from (breaks_by_access i live depth line b.rule b.cell) (facts Here) broken here))
 
   -- a store is to an output
   pub store_output : (k : ℕ) (a : Access) → IsMember k (numbers_in i) → IsMember a (accesses_in line)
       → a.store ≡ true → a.to ≡ Arg.Memory k → is_output_at i k ≡ true
   store_output k a is access store there = true_from_ne_false (is_output_at i k) (λ input.
-      both_ways _ (unbroken (alone Rule.W2 (Cell.Operand k)) (listed_store i k is))
+      both_ways _ (unbroken (alone Rule.W2 (Cell.Operand k)) (listed_store i k is) refl)
       (and_from (not (is_output_at i k)) _ (not_from_false (is_output_at i k) input)
       (any_in (λ (e : Access). e.store && is_of_operand k e.to) (accesses_in line) a access
       (and_from a.store (is_of_operand k a.to) store (of_operand a k there)))))
@@ -109,7 +110,7 @@ module _ (i : Interface) (live : List Shape) (s : Shape) (depth : ℕ) (line : S
   pub access_depth : (k : ℕ) (a : Access) → IsMember k (numbers_in i) → IsMember a (accesses_in line)
       → a.to ≡ Arg.Memory k → depth ≡ 0
   access_depth k a is access there = eqb-true depth 0 (true_from_ne_false (depth == 0) (λ more.
-      both_ways _ (unbroken (alone Rule.U4 (Cell.Operand k)) (listed_pushed i k is))
+      both_ways _ (unbroken (alone Rule.U4 (Cell.Operand k)) (listed_pushed i k is) refl)
       (and_from (not (depth == 0)) (uses_address line k) (not_from_false (depth == 0) more)
       (or_left (list_any (λ (e : Access). is_of_operand k e.to) (accesses_in line))
       (list_any (is_address_of k) (reads_of (entry_row line) line))
@@ -120,7 +121,7 @@ module _ (i : Interface) (live : List Shape) (s : Shape) (depth : ℕ) (line : S
 
   reach_declared : (a : Access) → IsMember a (accesses_in line) → reaches a ≡ true → i.memory ≡ true
   reach_declared a access reached = true_from_ne_false i.memory (λ none.
-      both_ways _ (unbroken (alone Rule.M1 Cell.Memory) (listed_memory i))
+      both_ways _ (unbroken (alone Rule.M1 Cell.Memory) (listed_memory i) refl)
       (and_from (not i.memory) (list_any reaches (accesses_in line)) (not_from_false i.memory none)
       (any_in reaches (accesses_in line) a access reached)))
 
@@ -138,6 +139,6 @@ module _ (i : Interface) (live : List Shape) (s : Shape) (depth : ℕ) (line : S
     where
       fixed : is_changing live k ≡ false
       fixed = false_from_ne_true (is_changing live k) (λ changing.
-          both_ways _ (unbroken (alone Rule.M2 (Cell.Operand k)) (listed_end i k is))
+          both_ways _ (unbroken (alone Rule.M2 (Cell.Operand k)) (listed_end i k is) refl)
           (and_from (is_changing live k) (list_any (is_past i k) (accesses_in line)) changing
           (any_in (is_past i k) (accesses_in line) a access past)))
