@@ -1,0 +1,125 @@
+-- How a statement is patched: items are added by the verdicts that the statement has with them, and those are left that it is accepted with and not
+-- without. This project's own.
+use Rattle.std.specs.Prelude.{◌≡◌, ◌&&◌, not, List, [], ◌∷◌, ◌++◌, Bool, true, false, Option, None, Some, find, is_none, if◌then◌else◌}
+use Rattle.asm_core.specs.declared.finding.Rule.{Rule}
+use Rattle.asm_core.specs.declared.finding.Finding.{Finding}
+use Rattle.asm_core.specs.declared.statement.Body.{Body}
+use Rattle.asm_core.specs.declared.statement.Statement.{Statement}
+use Rattle.asm_core.specs.declared.interface.Interface.{Interface}
+use Rattle.blk_check.specs.Judged.{IsVerdict}
+use Rattle.blk_check.specs.declared.verdict.Verdict.{Verdict}
+use Rattle.blk_patch.specs.Items.{has, with_items}
+use Rattle.blk_patch.specs.Suggested.{item_of}
+use Rattle.blk_patch.specs.declared.item.Item.{Item}
+use Rattle.blk_patch.specs.declared.patch.PatchEnd.{PatchEnd}
+
+-- ---- the next item
+
+abbrev pub unless_there : List Item → Option Item → Option Item
+unless_there items None = None
+unless_there items (Some x) = if has items x then None else Some x
+
+-- the item of a finding that isn't among these yet, the finding being one of the statement with them
+abbrev pub new_item : Body → Interface → List Item → Finding → Option Item
+new_item body i items f = unless_there items (item_of body (with_items items i) f)
+
+abbrev pub or_first : Option Item → Option Item → Option Item
+or_first None other = other
+or_first (Some x) other = Some x
+
+-- that of the first finding that has one
+unfoldable pub first_new : Body → Interface → List Item → List Finding → Option Item
+first_new body i items [] = None
+first_new body i items (f ∷ fs) = or_first (new_item body i items f) (first_new body i items fs)
+
+abbrev pub if_clobber : Option Item → Option Item
+if_clobber (Some (Item.Clobber r)) = Some (Item.Clobber r)
+if_clobber x = None
+
+-- the first of them that is a register's clobber
+unfoldable pub first_clobber : Body → Interface → List Item → List Finding → Option Item
+first_clobber body i items [] = None
+first_clobber body i items (f ∷ fs) = or_first (if_clobber (new_item body i items f)) (first_clobber body i items fs)
+
+-- Early marks are items of one rule alone, and this rule's clobbers are taken before them. A clobber of a rule before it would be the first item.
+abbrev pub preferred : Option Item → Option Item → Option Item
+preferred (Some (Item.Early k)) clobber = or_first clobber (Some (Item.Early k))
+preferred first clobber = first
+
+abbrev pub next_item : Body → Interface → List Item → List Finding → Option Item
+next_item body i items fs = preferred (first_new body i items fs) (first_clobber body i items fs)
+
+-- ---- rounds
+
+abbrev pub is_k1 : Rule → Bool
+is_k1 Rule.K1 = true
+is_k1 rule = false
+
+abbrev pub begins_with_k1 : List Finding → Bool
+begins_with_k1 [] = false
+begins_with_k1 (f ∷ fs) = is_k1 f.rule
+
+abbrev pub are_some : List Item → Bool
+are_some [] = false
+are_some (x ∷ xs) = true
+
+-- items were added, and now no placement has room
+abbrev pub is_without_room : List Item → List Finding → Bool
+is_without_room items fs = are_some items && begins_with_k1 fs
+
+-- the item to add by the verdict on the statement with these
+abbrev pub next_by : Body → Interface → List Item → Verdict → Option Item
+next_by body i items (Verdict.Broken fs) = if is_without_room items fs then None else next_item body i items fs
+next_by body i items v = None
+
+-- items that are added one by one, each by the verdict on the statement with those before it
+pub data IsReached (s : Statement) (i : Interface) : List Item → Type 0 where
+  begins : IsReached s i []
+  adds : (items : List Item) (v : Verdict) (x : Item) → IsReached s i items → IsVerdict s (with_items items i) v → next_by s.body i items v ≡ Some x
+      → IsReached s i (items ++ x ∷ [])
+
+-- ---- items that stay
+
+abbrev pub is_ok : Verdict → Bool
+is_ok (Verdict.Ok proof) = true
+is_ok v = false
+
+-- Of the items, in their order, each is dropped without which the statement is accepted; `kept` are those that stay of the ones before.
+pub data IsThinned (s : Statement) (i : Interface) : List Item → List Item → List Item → Type 0 where
+  done : (kept : List Item) → IsThinned s i kept [] kept
+  drops : (kept : List Item) (x : Item) (rest left : List Item) (v : Verdict) → IsVerdict s (with_items (kept ++ rest) i) v → is_ok v ≡ true
+      → IsThinned s i kept rest left → IsThinned s i kept (x ∷ rest) left
+  keeps : (kept : List Item) (x : Item) (rest left : List Item) (v : Verdict) → IsVerdict s (with_items (kept ++ rest) i) v → is_ok v ≡ false
+      → IsThinned s i (kept ++ x ∷ []) rest left → IsThinned s i kept (x ∷ rest) left
+
+-- ---- the answer
+
+abbrev pub has_no_item : Body → Interface → List Item → Finding → Bool
+has_no_item body i items f = is_none (item_of body (with_items items i) f)
+
+-- the first finding that has no item
+abbrev pub first_itemless : Body → Interface → List Item → List Finding → Option Finding
+first_itemless body i items fs = find (has_no_item body i items) fs
+
+abbrev pub IsAcceptedEnd : Statement → Interface → List Item → PatchEnd → Type 0
+IsAcceptedEnd s i [] end = end ≡ PatchEnd.Nothing
+IsAcceptedEnd s i (x ∷ xs) end = (left : List Item) × IsThinned s i [] (x ∷ xs) left × (end ≡ PatchEnd.Patched left)
+
+abbrev pub IsRefusedEnd : Body → Interface → List Item → List Finding → Bool → PatchEnd → Type 0
+IsRefusedEnd body i items fs true end = end ≡ PatchEnd.NoRoom items
+IsRefusedEnd body i items fs false end = (f : Finding) × (first_itemless body i items fs ≡ Some f) × (end ≡ PatchEnd.NoPatch f)
+
+-- what is answered where no item is added any more
+abbrev pub IsEnd : Statement → Interface → List Item → Verdict → PatchEnd → Type 0
+IsEnd s i items (Verdict.Ok proof) end = IsAcceptedEnd s i items end
+IsEnd s i items (Verdict.Broken fs) end = IsRefusedEnd s.body i items fs (is_without_room items fs) end
+IsEnd s i items (Verdict.Outside mark) end = end ≡ PatchEnd.Outside mark
+
+-- the statement's patch, or why there is none
+pub record IsPatch (s : Statement) (i : Interface) (end : PatchEnd) : Type 0 where
+  pub items : List Item
+  pub verdict : Verdict
+  pub reached : IsReached s i items
+  pub is_verdict : IsVerdict s (with_items items i) verdict
+  pub no_more : next_by s.body i items verdict ≡ None
+  pub is_end : IsEnd s i items verdict end
