@@ -11,6 +11,7 @@ use Rattle.blk_check.specs.declared.verdict.Verdict.{Verdict}
 use Rattle.blk_patch.specs.Items.{has, with_items}
 use Rattle.blk_patch.specs.Suggested.{item_of}
 use Rattle.blk_patch.specs.declared.item.Item.{Item}
+use Rattle.blk_patch.specs.declared.rounds.Reached.{Reached}
 use Rattle.blk_patch.specs.declared.patch.PatchEnd.{PatchEnd}
 
 -- ---- the next item
@@ -19,9 +20,9 @@ abbrev pub unless_there : List Item → Option Item → Option Item
 unless_there items None = None
 unless_there items (Some x) = if has items x then None else Some x
 
--- the item of a finding that isn't among these yet, the finding being one of the statement with them
+-- the item of a finding that isn't among these yet; `patched` is the interface with them
 abbrev pub new_item : Body → Interface → List Item → Finding → Option Item
-new_item body i items f = unless_there items (item_of body (with_items items i) f)
+new_item body patched items f = unless_there items (item_of body patched f)
 
 abbrev pub or_first : Option Item → Option Item → Option Item
 or_first None other = other
@@ -29,8 +30,8 @@ or_first (Some x) other = Some x
 
 -- that of the first finding that has one
 unfoldable pub first_new : Body → Interface → List Item → List Finding → Option Item
-first_new body i items [] = None
-first_new body i items (f ∷ fs) = or_first (new_item body i items f) (first_new body i items fs)
+first_new body patched items [] = None
+first_new body patched items (f ∷ fs) = or_first (new_item body patched items f) (first_new body patched items fs)
 
 abbrev pub if_clobber : Option Item → Option Item
 if_clobber (Some (Item.Clobber r)) = Some (Item.Clobber r)
@@ -38,8 +39,8 @@ if_clobber x = None
 
 -- the first of them that is a register's clobber
 unfoldable pub first_clobber : Body → Interface → List Item → List Finding → Option Item
-first_clobber body i items [] = None
-first_clobber body i items (f ∷ fs) = or_first (if_clobber (new_item body i items f)) (first_clobber body i items fs)
+first_clobber body patched items [] = None
+first_clobber body patched items (f ∷ fs) = or_first (if_clobber (new_item body patched items f)) (first_clobber body patched items fs)
 
 -- Early marks are items of one rule alone, and this rule's clobbers are taken before them. A clobber of a rule before it would be the first item.
 abbrev pub preferred : Option Item → Option Item → Option Item
@@ -47,7 +48,7 @@ preferred (Some (Item.Early k)) clobber = or_first clobber (Some (Item.Early k))
 preferred first clobber = first
 
 abbrev pub next_item : Body → Interface → List Item → List Finding → Option Item
-next_item body i items fs = preferred (first_new body i items fs) (first_clobber body i items fs)
+next_item body patched items fs = preferred (first_new body patched items fs) (first_clobber body patched items fs)
 
 -- ---- rounds
 
@@ -69,13 +70,13 @@ is_without_room items fs = are_some items && begins_with_k1 fs
 
 -- the item to add by the verdict on the statement with these
 abbrev pub next_by : Body → Interface → List Item → Verdict → Option Item
-next_by body i items (Verdict.Broken fs) = if is_without_room items fs then None else next_item body i items fs
-next_by body i items v = None
+next_by body patched items (Verdict.Broken fs) = if is_without_room items fs then None else next_item body patched items fs
+next_by body patched items v = None
 
 -- items that are added one by one, each by the verdict on the statement with those before it
 pub data IsReached (s : Statement) (i : Interface) : List Item → Type 0 where
   begins : IsReached s i []
-  adds : (items : List Item) (v : Verdict) (x : Item) → IsReached s i items → IsVerdict s (with_items items i) v → next_by s.body i items v ≡ Some x
+  adds : (items : List Item) (v : Verdict) (x : Item) → IsReached s i items → IsVerdict s (with_items items i) v → next_by s.body (with_items items i) items v ≡ Some x
       → IsReached s i (items ++ x ∷ [])
 
 -- ---- items that stay
@@ -94,32 +95,36 @@ pub data IsThinned (s : Statement) (i : Interface) : List Item → List Item →
 
 -- ---- the answer
 
-abbrev pub has_no_item : Body → Interface → List Item → Finding → Bool
-has_no_item body i items f = is_none (item_of body (with_items items i) f)
+abbrev pub has_no_item : Body → Interface → Finding → Bool
+has_no_item body patched f = is_none (item_of body patched f)
 
--- the first finding that has no item
-abbrev pub first_itemless : Body → Interface → List Item → List Finding → Option Finding
-first_itemless body i items fs = find (has_no_item body i items) fs
+-- the first of the findings that has no item, or the first of all
+abbrev pub refusing : Body → Interface → Finding → List Finding → Finding
+refusing body patched first fs = elim (find (has_no_item body patched) fs) [ None ↦ first | Some f ↦ f ]
 
 abbrev pub IsAcceptedEnd : Statement → Interface → List Item → PatchEnd → Type 0
 IsAcceptedEnd s i [] end = end ≡ PatchEnd.Nothing
 IsAcceptedEnd s i (x ∷ xs) end = (left : List Item) × IsThinned s i [] (x ∷ xs) left × (end ≡ PatchEnd.Patched left)
 
 abbrev pub IsRefusedEnd : Body → Interface → List Item → List Finding → Bool → PatchEnd → Type 0
-IsRefusedEnd body i items fs true end = end ≡ PatchEnd.NoRoom items
-IsRefusedEnd body i items fs false end = (f : Finding) × (first_itemless body i items fs ≡ Some f) × (end ≡ PatchEnd.NoPatch f)
+IsRefusedEnd body patched items fs true end = end ≡ PatchEnd.NoRoom items
+IsRefusedEnd body patched items [] false end = ⊥
+IsRefusedEnd body patched items (f ∷ fs) false end = end ≡ PatchEnd.NoPatch (refusing body patched f (f ∷ fs))
 
 -- what is answered where no item is added any more
 abbrev pub IsEnd : Statement → Interface → List Item → Verdict → PatchEnd → Type 0
 IsEnd s i items (Verdict.Ok proof) end = IsAcceptedEnd s i items end
-IsEnd s i items (Verdict.Broken fs) end = IsRefusedEnd s.body i items fs (is_without_room items fs) end
+IsEnd s i items (Verdict.Broken fs) end = IsRefusedEnd s.body (with_items items i) items fs (is_without_room items fs) end
 IsEnd s i items (Verdict.Outside mark) end = end ≡ PatchEnd.Outside mark
+
+-- items that were added, where by the verdict no more is added
+pub record IsReachedEnd (s : Statement) (i : Interface) (reached : Reached) : Type 0 where
+  pub are_reached : IsReached s i reached.items
+  pub is_verdict : IsVerdict s (with_items reached.items i) reached.verdict
+  pub no_more : next_by s.body (with_items reached.items i) reached.items reached.verdict ≡ None
 
 -- the statement's patch, or why there is none
 pub record IsPatch (s : Statement) (i : Interface) (end : PatchEnd) : Type 0 where
-  pub items : List Item
-  pub verdict : Verdict
-  pub reached : IsReached s i items
-  pub is_verdict : IsVerdict s (with_items items i) verdict
-  pub no_more : next_by s.body i items verdict ≡ None
-  pub is_end : IsEnd s i items verdict end
+  pub reached : Reached
+  pub is_reached : IsReachedEnd s i reached
+  pub is_end : IsEnd s i reached.items reached.verdict end

@@ -1,0 +1,103 @@
+//! The patch of a statement, or why there is none.
+
+ghost use Rattle.std.specs.Prelude.{◌≡◌, ◌≤◌, ◌∷◌, length, IfOk};
+ghost use Rattle.asm_core.specs.WellFormed.{IsInterface};
+ghost use Rattle.blk_check.specs.Judged.{IsInterfaceOf};
+ghost use Rattle.blk_patch.specs.Items.{with_items};
+ghost use Rattle.blk_patch.specs.Rounds.{IsPatch, IsReachedEnd, IsEnd, IsAcceptedEnd, IsRefusedEnd, refusing, has_no_item, is_without_room};
+
+use crate::Item;
+use crate::interface::with_items;
+use crate::rounds::{Reached, is_without_room, reach};
+use crate::suggestion::item_of;
+use crate::thinning::thin;
+use asm_core::{Body, Finding, Interface, Items, Mark, Memory, Statement};
+use blk_check::Verdict;
+use std::alloc::Global;
+
+/// What a patch does for a statement.
+#[derive(Debug, Drop)]
+pub enum PatchEnd {
+    /// It is accepted as it stands.
+    Nothing,
+    /// With these items it is accepted, and without any of them it isn't.
+    Patched(Items<Item>),
+    /// A rule that is broken and that no item mends.
+    NoPatch(Finding),
+    /// With these items no placement has room.
+    NoRoom(Items<Item>),
+    /// What lies outside the tables.
+    Outside(Mark),
+}
+
+/// Looks for a patch of the statement that has this interface.
+pub fn patch(alloc: Global, statement: &Statement, interface: &Interface) -> Result<PatchEnd, Memory>
+    requires interface { IsInterface interface.now }
+    requires stated { IsInterfaceOf interface.now statement.now }
+    ensures { IfOk result (IsPatch statement.now interface.now) }
+{
+    let Reached { items, verdict } = reach(alloc, statement, interface)?;
+    match verdict {
+        Verdict::Ok(_) => accepted(alloc, statement, interface, items),
+        Verdict::Outside(mark) => Ok(PatchEnd::Outside(mark)),
+        Verdict::Broken(findings) => {
+            refused(alloc, statement, interface, items, findings.as_slice())
+        }
+    }
+}
+
+/// The answer where the statement is accepted with these items.
+fn accepted(
+    alloc: Global,
+    statement: &Statement,
+    interface: &Interface,
+    items: Items<Item>,
+) -> Result<PatchEnd, Memory>
+    requires interface { IsInterface interface.now }
+    requires stated { IsInterfaceOf interface.now statement.now }
+    ensures { IfOk result (IsAcceptedEnd statement.now interface.now items) }
+{
+    if items.is_empty() {
+        return Ok(PatchEnd::Nothing);
+    }
+    Ok(PatchEnd::Patched(thin(alloc, statement, interface, items)?))
+}
+
+/// The answer where this is found of the statement with these items, and no more are added.
+fn refused(
+    alloc: Global,
+    statement: &Statement,
+    interface: &Interface,
+    items: Items<Item>,
+    findings: &[Finding],
+) -> Result<PatchEnd, Memory>
+    requires few { length interface.now.operands ≤ 30 }
+    requires found { IsSomeFound findings.now }
+    ensures { IfOk result (IsRefusedEnd statement.now.body (with_items items interface.now) items findings.now (is_without_room items findings.now)) }
+{
+    if is_without_room(items.as_slice(), findings) {
+        return Ok(PatchEnd::NoRoom(items));
+    }
+    let patched = with_items(alloc, items.as_slice(), interface)?;
+    match findings {
+        [] => unreachable!(),
+        [first, ..] => Ok(PatchEnd::NoPatch(refusing(
+            &statement.body,
+            &patched,
+            *first,
+            findings,
+        ))),
+    }
+}
+
+/// The first of the findings that has no item, or the first of all.
+fn refusing(body: &Body, patched: &Interface, first: Finding, findings: &[Finding]) -> Finding
+    requires { length patched.now.operands ≤ 30 }
+    ensures { result ≡ refusing body.now patched.now first findings.now }
+{
+    findings
+        .iter()
+        .find(|finding| item_of(body, patched, finding).is_none())
+        .copied()
+        .unwrap_or(first)
+}
