@@ -25,7 +25,7 @@ item_number (Item.Byte k) = 11 + 3 * k
 
 -- the item is among these
 unfoldable pub has : List Item → Item → Bool
-has items x = list_any (λ y. item_number y == item_number x) items
+has items x = list_any (λ y. item_number x == item_number y) items
 
 -- ---- operands
 

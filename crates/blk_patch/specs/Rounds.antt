@@ -12,7 +12,7 @@ use Rattle.blk_patch.specs.Items.{has, with_items}
 use Rattle.blk_patch.specs.Suggested.{item_of}
 use Rattle.blk_patch.specs.declared.item.Item.{Item}
 use Rattle.blk_patch.specs.declared.rounds.Reached.{Reached}
-use Rattle.blk_patch.specs.declared.patch.PatchEnd.{PatchEnd}
+use Rattle.blk_patch.specs.declared.patches.PatchEnd.{PatchEnd}
 
 -- ---- the next item
 
@@ -93,7 +93,17 @@ pub data IsThinned (s : Statement) (i : Interface) : List Item → List Item →
   keeps : (kept : List Item) (x : Item) (rest left : List Item) (v : Verdict) → IsVerdict s (with_items (kept ++ rest) i) v → is_ok v ≡ false
       → IsThinned s i (kept ++ x ∷ []) rest left → IsThinned s i kept (x ∷ rest) left
 
+-- whether the statement is accepted with that interface
+pub record TellsOk (s : Statement) (i : Interface) (accepted : Bool) : Type 0 where
+  pub verdict : Verdict
+  pub is_verdict : IsVerdict s i verdict
+  pub tells : is_ok verdict ≡ accepted
+
 -- ---- the answer
+
+abbrev pub AreSome : List Finding → Type 0
+AreSome [] = ⊥
+AreSome (f ∷ fs) = Unit {0}
 
 abbrev pub has_no_item : Body → Interface → Finding → Bool
 has_no_item body patched f = is_none (item_of body patched f)
@@ -120,6 +130,7 @@ IsEnd s i items (Verdict.Outside mark) end = end ≡ PatchEnd.Outside mark
 -- items that were added, where by the verdict no more is added
 pub record IsReachedEnd (s : Statement) (i : Interface) (reached : Reached) : Type 0 where
   pub are_reached : IsReached s i reached.items
+  pub interface : reached.interface ≡ with_items reached.items i
   pub is_verdict : IsVerdict s (with_items reached.items i) reached.verdict
   pub no_more : next_by s.body (with_items reached.items i) reached.items reached.verdict ≡ None
 

@@ -43,5 +43,5 @@ impl Item {
 pub fn has(items: &[Item], item: Item) -> bool
     ensures { result ≡ has items.now item }
 {
-    items.iter().any(|other| other.number() == item.number())
+    items.iter().any(|other| item.number() == other.number())
 }

@@ -4,10 +4,10 @@
 mod interface;
 mod item;
 mod letters;
-mod patch;
+mod patches;
 mod rounds;
 mod suggestion;
 mod thinning;
 
 pub use item::Item;
-pub use patch::{PatchEnd, patch};
+pub use patches::{PatchEnd, patch};

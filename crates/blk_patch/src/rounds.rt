@@ -14,10 +14,11 @@ use asm_core::{Body, Finding, Interface, Items, Memory, Rule, Statement};
 use blk_check::{Verdict, check};
 use std::alloc::Global;
 
-/// Items that were added, with the verdict on the statement with them, by which no more is added.
+/// Items that were added, with the interface and the verdict of the statement with them, by which no more is added.
 #[derive(Debug, Drop)]
 pub struct Reached {
     pub items: Items<Item>,
+    pub interface: Interface,
     pub verdict: Verdict,
 }
 
@@ -28,12 +29,18 @@ pub fn reach(alloc: Global, statement: &Statement, interface: &Interface) -> Res
     ensures { IfOk result (IsReachedEnd statement.now interface.now) }
 {
     let mut items = Items::new(alloc);
-    loop {
+    'rounds: loop {
         let patched = with_items(alloc, items.as_slice(), interface)?;
         let verdict = check(alloc, statement, &patched)?;
         match next_by(&statement.body, &patched, items.as_slice(), &verdict) {
             Some(item) => items.push(item)?,
-            None => return Ok(Reached { items, verdict }),
+            None => {
+                return Ok(Reached {
+                    items,
+                    interface: patched,
+                    verdict,
+                });
+            }
         }
     }
 }

@@ -24,7 +24,7 @@ pub fn thin(
     ensures { IfOk result (IsThinned statement.now interface.now [] items) }
 {
     let mut at = 0;
-    while at < items.len() {
+    'items: while at < items.len() {
         let mut others = Items::from_slice(alloc, items.as_slice())?;
         others.remove(at);
         if is_accepted(alloc, statement, interface, others.as_slice())? {

@@ -3,12 +3,10 @@
 ghost use Rattle.std.specs.Prelude.{◌≡◌, ◌≤◌, ◌∷◌, length, IfOk};
 ghost use Rattle.asm_core.specs.WellFormed.{IsInterface};
 ghost use Rattle.blk_check.specs.Judged.{IsInterfaceOf};
-ghost use Rattle.blk_patch.specs.Items.{with_items};
-ghost use Rattle.blk_patch.specs.Rounds.{IsPatch, IsReachedEnd, IsEnd, IsAcceptedEnd, IsRefusedEnd, refusing, has_no_item, is_without_room};
+ghost use Rattle.blk_patch.specs.Rounds.{IsPatch, IsReachedEnd, IsEnd, IsAcceptedEnd, IsRefusedEnd, AreSome, refusing, has_no_item, is_without_room};
 
 use crate::Item;
-use crate::interface::with_items;
-use crate::rounds::{Reached, is_without_room, reach};
+use crate::rounds::{is_without_room, reach};
 use crate::suggestion::item_of;
 use crate::thinning::thin;
 use asm_core::{Body, Finding, Interface, Items, Mark, Memory, Statement};
@@ -36,13 +34,16 @@ pub fn patch(alloc: Global, statement: &Statement, interface: &Interface) -> Res
     requires stated { IsInterfaceOf interface.now statement.now }
     ensures { IfOk result (IsPatch statement.now interface.now) }
 {
-    let Reached { items, verdict } = reach(alloc, statement, interface)?;
-    match verdict {
-        Verdict::Ok(_) => accepted(alloc, statement, interface, items),
+    let reached = reach(alloc, statement, interface)?;
+    match reached.verdict {
+        Verdict::Ok(_) => accepted(alloc, statement, interface, reached.items),
         Verdict::Outside(mark) => Ok(PatchEnd::Outside(mark)),
-        Verdict::Broken(findings) => {
-            refused(alloc, statement, interface, items, findings.as_slice())
-        }
+        Verdict::Broken(findings) => Ok(refused(
+            &statement.body,
+            &reached.interface,
+            reached.items,
+            findings.as_slice(),
+        )),
     }
 }
 
@@ -64,29 +65,17 @@ fn accepted(
 }
 
 /// The answer where this is found of the statement with these items, and no more are added.
-fn refused(
-    alloc: Global,
-    statement: &Statement,
-    interface: &Interface,
-    items: Items<Item>,
-    findings: &[Finding],
-) -> Result<PatchEnd, Memory>
-    requires few { length interface.now.operands ≤ 30 }
-    requires found { IsSomeFound findings.now }
-    ensures { IfOk result (IsRefusedEnd statement.now.body (with_items items interface.now) items findings.now (is_without_room items findings.now)) }
+fn refused(body: &Body, patched: &Interface, items: Items<Item>, findings: &[Finding]) -> PatchEnd
+    requires few { length patched.now.operands ≤ 30 }
+    requires found { AreSome findings.now }
+    ensures { IsRefusedEnd body.now patched.now items findings.now (is_without_room items findings.now) result }
 {
     if is_without_room(items.as_slice(), findings) {
-        return Ok(PatchEnd::NoRoom(items));
+        return PatchEnd::NoRoom(items);
     }
-    let patched = with_items(alloc, items.as_slice(), interface)?;
     match findings {
         [] => unreachable!(),
-        [first, ..] => Ok(PatchEnd::NoPatch(refusing(
-            &statement.body,
-            &patched,
-            *first,
-            findings,
-        ))),
+        [first, ..] => PatchEnd::NoPatch(refusing(body, patched, *first, findings)),
     }
 }
 

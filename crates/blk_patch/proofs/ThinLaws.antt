@@ -1,0 +1,63 @@
+-- Items are dropped one after another: what is left of the rest is left of the whole.
+use Rattle.std.proofs.Common.{◌≡◌, ℕ, suc, ◌+◌, ◌<◌, ◌≤◌, List, [], ◌∷◌, ◌++◌, length, take, drop, get_or, Bool, true, false, Option, Some, slice_get, refl, sym, ap, subst, ◌∙◌, length-append, arith}
+use Rattle.std.specs.List.{remove}
+use Rattle.std.proofs.Math.Seq.{take-append_seam, drop-append_seam}
+use Rattle.std.proofs.lemmas.List.{drop_all, drop_more, take_all, take_more, length-take-le}
+use Rattle.std.proofs.lemmas.Option.{slice_get_within, get_or_from_slice_get}
+use Rattle.asm_core.specs.declared.statement.Statement.{Statement}
+use Rattle.asm_core.specs.declared.interface.Interface.{Interface}
+use Rattle.blk_patch.specs.Items.{with_items}
+use Rattle.blk_patch.specs.Rounds.{IsThinned, TellsOk}
+use Rattle.blk_patch.specs.declared.item.Item.{Item}
+
+-- the items before `at` stay, and those from it on aren't tried yet
+pub record IsThinning (s : Statement) (i : Interface) (whole : List Item) (at : ℕ) (items : List Item) : Type 0 where
+  pub within : at ≤ length items
+  pub finishes : (left : List Item) → IsThinned s i (take at items) (drop at items) left → IsThinned s i [] whole left
+
+module _ (s : Statement) (i : Interface) (whole : List Item) where
+  pub thinning_begins : IsThinning s i whole 0 whole
+  thinning_begins = record { within = omega arith; finishes = λ left thinned. thinned }
+
+  pub thinning_ends : (at : ℕ) (items : List Item) → IsThinning s i whole at items → length items ≤ at → IsThinned s i [] whole items
+  thinning_ends at items t le = t.finishes items
+      (subst (λ rest. IsThinned s i (take at items) rest items) (sym (drop_all at items le))
+      (subst (λ kept. IsThinned s i kept [] items) (sym (take_all at items le)) (IsThinned.done items)))
+
+  module _ (at : ℕ) (items : List Item) (x : Item) (here : slice_get items at ≡ Some x) where
+    inside : at < length items
+    inside = slice_get_within items at x here
+
+    abbrev kept : List Item
+    kept = take at items
+
+    abbrev rest : List Item
+    rest = drop (at + 1) items
+
+    split : drop at items ≡ x ∷ rest
+    split = drop_more items at x inside ∙ ap (λ y. y ∷ rest) (get_or_from_slice_get items at x x here)
+
+    longer : take (at + 1) items ≡ kept ++ x ∷ []
+    longer = take_more items at x inside ∙ ap (λ y. kept ++ y ∷ []) (get_or_from_slice_get items at x x here)
+
+    kept_long : length kept ≡ at
+    kept_long = length-take-le at items (omega (arith, inside))
+
+    pub thinning_drops : IsThinning s i whole at items → TellsOk s (with_items (remove items at) i) true → IsThinning s i whole at (remove items at)
+    thinning_drops t told = record {
+      within = let long = length-append kept (drop (suc at) items) in let k = kept_long in omega (arith, long, k);
+      finishes = λ left thinned. t.finishes left
+          (subst (λ r. IsThinned s i kept r left) (sym split)
+          (IsThinned.drops kept x rest left told.verdict told.is_verdict told.tells
+          (subst (λ k. IsThinned s i k rest left) (subst (λ n. take n (kept ++ rest) ≡ kept) kept_long (take-append_seam kept rest))
+          (subst (λ r. IsThinned s i (take at (kept ++ rest)) r left) (subst (λ n. drop n (kept ++ rest) ≡ rest) kept_long (drop-append_seam kept rest)) thinned))));
+    }
+
+    pub thinning_keeps : IsThinning s i whole at items → TellsOk s (with_items (remove items at) i) false → IsThinning s i whole (at + 1) items
+    thinning_keeps t told = record {
+      within = let lt = inside in omega (arith, lt);
+      finishes = λ left thinned. t.finishes left
+          (subst (λ r. IsThinned s i kept r left) (sym split)
+          (IsThinned.keeps kept x rest left told.verdict told.is_verdict told.tells
+          (subst (λ k. IsThinned s i k rest left) longer thinned)));
+    }
