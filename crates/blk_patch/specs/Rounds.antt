@@ -9,7 +9,7 @@ use Rattle.asm_core.specs.declared.interface.Interface.{Interface}
 use Rattle.blk_check.specs.Judged.{IsVerdict}
 use Rattle.blk_check.specs.declared.verdict.Verdict.{Verdict}
 use Rattle.blk_patch.specs.Items.{has, with_items}
-use Rattle.blk_patch.specs.Suggested.{item_of}
+use Rattle.blk_patch.specs.Suggested.{item_of, or_item}
 use Rattle.blk_patch.specs.declared.item.Item.{Item}
 use Rattle.blk_patch.specs.declared.rounds.Reached.{Reached}
 use Rattle.blk_patch.specs.declared.patches.PatchEnd.{PatchEnd}
@@ -24,14 +24,10 @@ unless_there items (Some x) = if has items x then None else Some x
 abbrev pub new_item : Body → Interface → List Item → Finding → Option Item
 new_item body patched items f = unless_there items (item_of body patched f)
 
-abbrev pub or_first : Option Item → Option Item → Option Item
-or_first None other = other
-or_first (Some x) other = Some x
-
 -- that of the first finding that has one
 unfoldable pub first_new : Body → Interface → List Item → List Finding → Option Item
 first_new body patched items [] = None
-first_new body patched items (f ∷ fs) = or_first (new_item body patched items f) (first_new body patched items fs)
+first_new body patched items (f ∷ fs) = or_item (new_item body patched items f) (first_new body patched items fs)
 
 abbrev pub if_clobber : Option Item → Option Item
 if_clobber (Some (Item.Clobber r)) = Some (Item.Clobber r)
@@ -40,11 +36,11 @@ if_clobber x = None
 -- the first of them that is a register's clobber
 unfoldable pub first_clobber : Body → Interface → List Item → List Finding → Option Item
 first_clobber body patched items [] = None
-first_clobber body patched items (f ∷ fs) = or_first (if_clobber (new_item body patched items f)) (first_clobber body patched items fs)
+first_clobber body patched items (f ∷ fs) = or_item (if_clobber (new_item body patched items f)) (first_clobber body patched items fs)
 
 -- Early marks are items of one rule alone, and this rule's clobbers are taken before them. A clobber of a rule before it would be the first item.
 abbrev pub preferred : Option Item → Option Item → Option Item
-preferred (Some (Item.Early k)) clobber = or_first clobber (Some (Item.Early k))
+preferred (Some (Item.Early k)) clobber = or_item clobber (Some (Item.Early k))
 preferred first clobber = first
 
 abbrev pub next_item : Body → Interface → List Item → List Finding → Option Item

@@ -6,7 +6,7 @@ ghost use Rattle.blk_check.specs.Judged.{IsInterfaceOf};
 ghost use Rattle.blk_patch.specs.Rounds.{IsPatch, IsReachedEnd, IsEnd, IsAcceptedEnd, IsRefusedEnd, AreSome, refusing, has_no_item, is_without_room};
 
 use crate::Item;
-use crate::rounds::{is_without_room, reach};
+use crate::rounds::{Reached, is_without_room, reach};
 use crate::suggestion::item_of;
 use crate::thinning::thin;
 use asm_core::{Body, Finding, Interface, Items, Mark, Memory, Statement};
@@ -34,14 +34,18 @@ pub fn patch(alloc: Global, statement: &Statement, interface: &Interface) -> Res
     requires stated { IsInterfaceOf interface.now statement.now }
     ensures { IfOk result (IsPatch statement.now interface.now) }
 {
-    let reached = reach(alloc, statement, interface)?;
-    match reached.verdict {
-        Verdict::Ok(_) => accepted(alloc, statement, interface, reached.items),
-        Verdict::Outside(mark) => Ok(PatchEnd::Outside(mark)),
+    let Reached {
+        items,
+        interface: patched,
+        verdict,
+    } = reach(alloc, statement, interface)?;
+    match &verdict {
+        Verdict::Ok(_) => accepted(alloc, statement, interface, items),
+        Verdict::Outside(mark) => Ok(PatchEnd::Outside(*mark)),
         Verdict::Broken(findings) => Ok(refused(
             &statement.body,
-            &reached.interface,
-            reached.items,
+            &patched,
+            items,
             findings.as_slice(),
         )),
     }
