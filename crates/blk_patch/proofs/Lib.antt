@@ -1,3 +1,4 @@
+pub mod FindingLaws
 pub mod InterfaceLaws
 pub mod LetterLaws
 pub mod RoundLaws

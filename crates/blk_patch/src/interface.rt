@@ -31,7 +31,7 @@ pub fn with_items(
     })
 }
 
-#[tactic(auto, using(crate::proofs::InterfaceLaws::operands_done, crate::proofs::InterfaceLaws::operands_more))]
+#[tactic(auto, using(crate::proofs::InterfaceLaws::operands_begin, crate::proofs::InterfaceLaws::operands_more))]
 fn operands_with(
     alloc: Global,
     items: &[Item],

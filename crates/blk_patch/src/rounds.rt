@@ -88,6 +88,7 @@ fn next_item(body: &Body, patched: &Interface, items: &[Item], findings: &[Findi
 }
 
 /// The item of the first finding that has a new one.
+#[tactic(auto, using(crate::proofs::FindingLaws::new_more, crate::proofs::FindingLaws::new_done))]
 fn first_new(body: &Body, patched: &Interface, items: &[Item], findings: &[Finding]) -> Option<Item>
     requires { length patched.now.operands ≤ 30 }
     ensures { result ≡ first_new body.now patched.now items.now findings.now }
@@ -102,6 +103,7 @@ fn first_new(body: &Body, patched: &Interface, items: &[Item], findings: &[Findi
 }
 
 /// The first new item that is a register's clobber.
+#[tactic(auto, using(crate::proofs::FindingLaws::clobber_more, crate::proofs::FindingLaws::clobber_done))]
 fn first_clobber(
     body: &Body,
     patched: &Interface,

@@ -57,7 +57,7 @@ fn early_of(interface: &Interface, cell: Cell) -> Option<Item>
 }
 
 fn is_output(operand: Option<&OperandIface>) -> bool
-    ensures { result ≡ output_in (option_copied operand) }
+    ensures { result ≡ output_in (option_copied operand.entry) }
 {
     match operand {
         Some(operand) => matches!(operand.role, Role::Out | Role::InOut),
@@ -86,7 +86,7 @@ fn may_be_read(interface: &Interface, k: u8) -> bool
 }
 
 fn is_written(operand: Option<&OperandIface>) -> bool
-    ensures { result ≡ written_in (option_copied operand) }
+    ensures { result ≡ written_in (option_copied operand.entry) }
 {
     match operand {
         Some(operand) => matches!(operand.role, Role::Out),
@@ -156,7 +156,7 @@ fn part(parts: &Parts, k: usize) -> Option<&Part>
 
 /// Whether the operand's registers without byte names are those of the letter `r` alone.
 fn may_lose_high(part: Option<&Part>) -> bool
-    ensures { result ≡ may_lose_high (option_copied part) }
+    ensures { result ≡ may_lose_high (option_copied part.entry) }
 {
     match part {
         Some(part) => !has_high_letter(part.constraint.bytes.as_slice()),
