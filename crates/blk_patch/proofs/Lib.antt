@@ -6,3 +6,4 @@ pub mod SmallLaws
 pub mod ThinLaws
 pub mod VerdictLaws
 pub mod WithLaws
+pub mod WithStated

@@ -1,5 +1,5 @@
 -- Each round adds an item that isn't there, and there are 99 of them.
-use Rattle.std.proofs.Common.{◌≡◌, ◌⊎◌, inl, inr, ℕ, zero, suc, ◌+◌, ◌-◌, ◌*◌, ◌||◌, ◌<◌, ◌≤◌, ◌==◌, ◌&&◌, not, nat_lt, List, [], ◌∷◌, ◌++◌, length, map, count_by, Bool, true, false, Option, None, Some, slice_get, All, refl, sym, ap, subst, ◌∙◌, arith, tt, if◌then◌else◌}
+use Rattle.std.proofs.Common.{◌≡◌, ◌⊎◌, inl, inr, ℕ, zero, suc, ◌+◌, ◌-◌, ◌*◌, ◌||◌, ◌<◌, ◌≤◌, ◌==◌, ◌&&◌, not, nat_lt, List, [], ◌∷◌, ◌++◌, length, map, count_by, Bool, true, false, Option, None, Some, slice_get, All, refl, sym, ap, subst, ◌∙◌, arith, if◌then◌else◌}
 use Rattle.std.specs.List.{list_any, IsDistinct}
 use Rattle.std.proofs.Math.Dec.{eqb}
 use Rattle.std.proofs.lemmas.Bool.{and_parts, eqb-true, eq-eqb, both_ways, ne_eqb}
@@ -174,8 +174,8 @@ unless_new items None x e = cc
 unless_new items (Some y) x e = by (has items y) refl
   where
     by : (b : Bool) → has items y ≡ b → (Some y ≡ Some x) × (has items x ≡ false)
-    by true h = rw h at e in cc
-    by false h = let same : Some y ≡ Some x = (rw h at e in e) in (same, subst (λ z. has items z ≡ false) (some_is y x same) h)
+    by true h = let none : None ≡ Some x = rw h at e in cc
+    by false h = let same : Some y ≡ Some x = rw h at e in (same, subst (λ z. has items z ≡ false) (some_is y x same) h)
 
 only_clobbers : (o : Option Item) (x : Item) → if_clobber o ≡ Some x → o ≡ Some x
 only_clobbers None x e = cc
@@ -259,7 +259,7 @@ one_below q n lt e = by (eqb q n) refl
   where
     by : (b : Bool) → eqb q n ≡ b → q < 99
     by true h = let same = eqb-true q n h in omega (arith, same, lt)
-    by false h = rw h at e in cc
+    by false h = let wrong : false ≡ true = rw h at e in cc
 
 one_more : (items : List Item) (x : Item) → AreNumbered items → IsNew items x → AreNumbered (items ++ x ∷ [])
 one_more items x are new =
@@ -272,7 +272,7 @@ one_more items x are new =
   where
     parts : (q : ℕ) (b : Bool) → list_any (eqb q) (numbers items) ≡ b → (list_any (eqb q) (numbers items) || list_any (eqb q) (item_number x ∷ [])) ≡ true → q < 99
     parts q true h e = are.below q h
-    parts q false h e = one_below q (item_number x) new.below (rw h at e in e)
+    parts q false h e = one_below q (item_number x) new.below (rw h at e)
 
 module _ (s : Statement) (i : Interface) (is : IsInterface i) (stated : IsInterfaceOf i s) where
   parts_few : HasFew s.body

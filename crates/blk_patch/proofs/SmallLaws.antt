@@ -1,8 +1,8 @@
 -- Items leave memory small that is only written: they add no shape, and take none of the written operands' sizes.
-use Rattle.std.proofs.Common.{◌≡◌, ◌⊎◌, inl, inr, ℕ, zero, suc, ◌+◌, ◌<◌, ◌≤◌, ◌==◌, ◌&&◌, ◌||◌, not, List, [], ◌∷◌, ◌++◌, length, map, Bool, true, false, IsTrue, Option, None, Some, bit_and, slice_get, option_to_list, refl, sym, ap, subst, ◌∙◌, arith, tt, Unit, if◌then◌else◌}
+use Rattle.std.proofs.Common.{◌≡◌, ◌⊎◌, inl, inr, ℕ, zero, suc, ◌+◌, ◌<◌, ◌≤◌, ◌==◌, ◌&&◌, ◌||◌, not, List, [], ◌∷◌, ◌++◌, length, map, Bool, true, false, IsTrue, Option, None, Some, bit_and, slice_get, option_to_list, refl, sym, ap, subst, ◌∙◌, arith, Unit, if◌then◌else◌}
 use Rattle.std.specs.List.{list_any, flat_map}
 use Rattle.std.specs.Option.{option_map}
-use Rattle.std.proofs.lemmas.Bool.{and_parts, and_from, not-true, both_ways}
+use Rattle.std.proofs.lemmas.Bool.{and_parts, and_from, not-true, both_ways, eqb-true}
 use Rattle.std.proofs.lemmas.Option.{slice_get-map}
 use Rattle.asm_core.specs.Lists.{count_from, IsMember}
 use Rattle.asm_core.specs.Placement.{is_output, is_input, tie_root}
@@ -113,13 +113,10 @@ module _ (items : List Item) where
     where
       none : (b : Bool) → (regs.0 == 0) ≡ b → not (bit_and regs.0 15 == 0) ≡ true → not (regs.0 == 0) ≡ true
       none false z h = rw z refl
-      none true z h = let zero_is : regs.0 ≡ 0 = omega (arith, z) in rw zero_is at h in absurd (by_false h)
-        where
-          by_false : not (bit_and 0 15 == 0) ≡ true → ⊥
-          by_false h = cc
+      none true z h = let zero_is : regs.0 ≡ 0 = eqb-true regs.0 0 z in let wrong : not (bit_and 0 15 == 0) ≡ true = rw zero_is at h in cc
       by : (b : Bool) → has items (Item.Byte k) ≡ b → not (regs.0 == 0) ≡ true
-      by true h = none (regs.0 == 0) refl (rw h at e in e)
-      by false h = rw h at e in e
+      by true h = none (regs.0 == 0) refl (rw h at e)
+      by false h = rw h at e
 
   fewer_with : (k : ℕ) (output : Bool) (alt : AltIface) → IsFewer (alternative_with items k output alt) alt
   fewer_with k output alt = record {
@@ -212,7 +209,7 @@ module _ (items : List Item) (i : Interface) where
         by None e = rw e refl
         by (Some o) e =
             let e2 : slice_get patched.operands k ≡ Some (operand_with items k o) = with_at items i k ∙ ap (option_map (operand_with items k)) e in
-            rw e (unread_before items k o.role (rw e2 at h in h))
+            rw e (unread_before items k o.role (rw e2 at h))
 
     size_same : (k : ℕ) → size_at patched k ≡ size_at i k
     size_same k = by (slice_get i.operands k) refl

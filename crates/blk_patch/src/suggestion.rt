@@ -3,7 +3,7 @@
 ghost use Rattle.std.specs.Prelude.{◌≡◌, ◌≤◌, ◌+◌, ◌++◌, length, count_by, slice_get};
 ghost use Rattle.std.specs.Option.{option_copied};
 ghost use Rattle.asm_core.specs.Placement.{is_output};
-ghost use Rattle.blk_patch.specs.Suggested.{clobber_of, early_of, overwriter_item, is_in_out, is_tie_to, ties_to, written_in, output_in, may_be_read, plus_of, may_lose_high, byte_in, byte_of, item_of};
+ghost use Rattle.blk_patch.specs.Suggested.{clobber_of, early_of, overwriter_item, or_item, is_in_out, is_tie_to, ties_to, written_in, output_in, may_be_read, plus_of, may_lose_high, byte_in, byte_of, item_of};
 
 use crate::Item;
 use crate::letters::has_high_letter;
@@ -42,9 +42,19 @@ fn clobber_of(cell: Cell) -> Option<Item>
 fn overwriter_item(interface: &Interface, place: Cell, overwritten: Cell) -> Option<Item>
     ensures { result ≡ overwriter_item interface.now place overwritten }
 {
-    clobber_of(place)
-        .or(clobber_of(overwritten))
-        .or(early_of(interface, place))
+    or_item(
+        or_item(clobber_of(place), clobber_of(overwritten)),
+        early_of(interface, place),
+    )
+}
+
+fn or_item(first: Option<Item>, second: Option<Item>) -> Option<Item>
+    ensures { result ≡ or_item first second }
+{
+    match first {
+        Some(item) => Some(item),
+        None => second,
+    }
 }
 
 fn early_of(interface: &Interface, cell: Cell) -> Option<Item>

@@ -1,0 +1,10 @@
+use Rattle.blk_patch.proofs.WithStated.{interface_with, stated_with}
+use Rattle.blk_patch.proofs.rounds.reach.Goals as goal
+
+pub check-requires-clause-interface : goal.check-requires-clause-interface
+check-requires-clause-interface c =
+    interface_with c.args.statement.now c.args.interface.now c.rounds.items c.in_ok-patched.patched c.in_ok-patched.ensures c.requires.interface
+
+pub check-requires-clause-stated : goal.check-requires-clause-stated
+check-requires-clause-stated c =
+    stated_with c.args.statement.now c.args.interface.now c.rounds.items c.in_ok-patched.patched c.in_ok-patched.ensures c.requires.stated
