@@ -15,7 +15,10 @@ module _ (items : List Item) where
   -- those before the next, and the next
   pub operands_more : (os : List OperandIface) (k : ℕ) (o : OperandIface) → k < length os
       → operands_with items 0 (take (k + 1) os) ≡ operands_with items 0 (take k os) ++ operand_with items k (get_or os k o) ∷ []
-  operands_more os k o lt = taken_more os k 0 k o lt (omega arith)
+  operands_more os k o lt =
+      let next : suc k ≡ k + 1 = omega arith in
+      subst (λ n. operands_with items 0 (take n os) ≡ operands_with items 0 (take k os) ++ operand_with items k (get_or os k o) ∷ []) next
+      (taken_more os k 0 k o lt (omega arith))
 
   pub operands_begin : (os : List OperandIface) → operands_with items 0 (take 0 os) ≡ []
   unfolding operands_with

@@ -254,6 +254,10 @@ record AreNumbered (items : List Item) : Type 0 where
   distinct : IsDistinct eqb (numbers items)
   below : (q : ℕ) → list_any (eqb q) (numbers items) ≡ true → q < 99
 
+none_distinct : IsDistinct eqb []
+unfolding IsDistinct
+none_distinct = tt
+
 one_below : (q n : ℕ) → n < 99 → list_any (eqb q) (n ∷ []) ≡ true → q < 99
 one_below q n lt e = by (eqb q n) refl
   where
@@ -287,10 +291,6 @@ module _ (s : Statement) (i : Interface) (is : IsInterface i) (stated : IsInterf
 
   numbered : (items : List Item) → IsReached s i items → AreNumbered items
   numbered items IsReached.begins = record { distinct = none_distinct; below = λ q e. cc }
-    where
-      none_distinct : IsDistinct eqb []
-      unfolding IsDistinct
-      none_distinct = tt
   numbered items (IsReached.adds before v x reached verdict next) =
       one_more before x (numbered before reached)
       (round_is s.body parts_few (with_items before i) (subst (λ n. n ≤ 30) (sym (with_long before i)) is.few) before v x next)

@@ -151,11 +151,10 @@ module _ (items : List Item) (i : Interface) where
   patched = with_items items i
 
   alternatives_same : alternatives_of patched ≡ alternatives_of i
-  unfolding with_items
+  unfolding with_items operands_with
   alternatives_same = by i.operands refl
     where
       by : (os : List OperandIface) → i.operands ≡ os → alternatives_of patched ≡ alternatives_of i
-      unfolding with_items operands_with
       by [] e = rw e refl
       by (o ∷ os) e = rw e (count_same (operand_with items 0 o).alts o.alts 0 (length_mapped (alternative_with items 0 (is_output o.role)) o.alts))
         where

@@ -88,9 +88,11 @@ fn refusing(body: &Body, patched: &Interface, first: Finding, findings: &[Findin
     requires { length patched.now.operands ≤ 30 }
     ensures { result ≡ refusing body.now patched.now first findings.now }
 {
-    findings
+    match findings
         .iter()
         .find(|finding| item_of(body, patched, finding).is_none())
-        .copied()
-        .unwrap_or(first)
+    {
+        Some(finding) => *finding,
+        None => first,
+    }
 }

@@ -1,6 +1,7 @@
 //! The items that mend findings.
 
 ghost use Rattle.std.specs.Prelude.{◌≡◌, ◌≤◌, ◌+◌, ◌++◌, length, count_by, slice_get};
+ghost use Rattle.std.specs.List.{list_any};
 ghost use Rattle.std.specs.Option.{option_copied};
 ghost use Rattle.asm_core.specs.Placement.{is_output};
 ghost use Rattle.blk_patch.specs.Suggested.{clobber_of, early_of, overwriter_item, or_item, is_in_out, is_tie_to, ties_to, written_in, output_in, may_be_read, plus_of, may_lose_high, byte_in, byte_of, item_of};
@@ -91,8 +92,19 @@ fn may_be_read(interface: &Interface, k: u8) -> bool
     ensures { result ≡ may_be_read interface.now k }
 {
     is_written(interface.operands.get(k as usize))
-        && !interface.operands.as_slice().iter().any(|operand| ties_to(k, operand))
+        && !is_tied_to(interface, k)
         && operand_count(interface) < MOST_OPERANDS
+}
+
+/// Whether some operand is tied to operand k in some alternative.
+fn is_tied_to(interface: &Interface, k: u8) -> bool
+    ensures { result ≡ list_any (ties_to k) interface.now.operands }
+{
+    interface
+        .operands
+        .as_slice()
+        .iter()
+        .any(|operand| ties_to(k, operand))
 }
 
 fn is_written(operand: Option<&OperandIface>) -> bool
