@@ -1,5 +1,5 @@
 -- New items of findings, one finding at a time.
-use Rattle.std.proofs.Common.{◌≡◌, ℕ, ◌+◌, ◌<◌, ◌≤◌, List, length, drop, get_or, Option, None, ap}
+use Rattle.std.proofs.Common.{◌≡◌, ℕ, ◌+◌, ◌<◌, ◌≤◌, List, length, drop, get_or, Bool, true, false, Option, None, Some, is_some, refl, sym, ap, ◌∙◌}
 use Rattle.std.proofs.lemmas.List.{drop_all, drop_more}
 use Rattle.asm_core.specs.declared.finding.Finding.{Finding}
 use Rattle.asm_core.specs.declared.statement.Body.{Body}
@@ -26,3 +26,26 @@ module _ (body : Body) (w : Interface) (items : List Item) (fs : List Finding) (
   pub clobber_done : length fs ≤ k → first_clobber body w items (drop k fs) ≡ None
   unfolding first_clobber
   clobber_done le = ap (first_clobber body w items) (drop_all k fs le)
+
+  module _ (f : Finding) (lt : k < length fs) where
+    pub new_here : first_new body w items (drop k fs) ≡ first_new body w items fs
+        → (item : Option Item) → item ≡ new_item body w items (get_or fs k f) → is_some item ≡ true → item ≡ first_new body w items fs
+    new_here so_far None is some = cc
+    new_here so_far (Some x) is some = sym (sym so_far ∙ new_more f lt ∙ ap (λ o. or_item o (first_new body w items (drop (k + 1) fs))) (sym is))
+
+    pub new_next : first_new body w items (drop k fs) ≡ first_new body w items fs
+        → (item : Option Item) → item ≡ new_item body w items (get_or fs k f) → is_some item ≡ false
+        → first_new body w items (drop (k + 1) fs) ≡ first_new body w items fs
+    new_next so_far None is none = sym (new_more f lt ∙ ap (λ o. or_item o (first_new body w items (drop (k + 1) fs))) (sym is)) ∙ so_far
+    new_next so_far (Some x) is none = cc
+
+    pub clobber_here : first_clobber body w items (drop k fs) ≡ first_clobber body w items fs
+        → (item : Option Item) → item ≡ if_clobber (new_item body w items (get_or fs k f)) → is_some item ≡ true → item ≡ first_clobber body w items fs
+    clobber_here so_far None is some = cc
+    clobber_here so_far (Some x) is some = sym (sym so_far ∙ clobber_more f lt ∙ ap (λ o. or_item o (first_clobber body w items (drop (k + 1) fs))) (sym is))
+
+    pub clobber_next : first_clobber body w items (drop k fs) ≡ first_clobber body w items fs
+        → (item : Option Item) → item ≡ if_clobber (new_item body w items (get_or fs k f)) → is_some item ≡ false
+        → first_clobber body w items (drop (k + 1) fs) ≡ first_clobber body w items fs
+    clobber_next so_far None is none = sym (clobber_more f lt ∙ ap (λ o. or_item o (first_clobber body w items (drop (k + 1) fs))) (sym is)) ∙ so_far
+    clobber_next so_far (Some x) is none = cc

@@ -1,5 +1,5 @@
 -- Items leave memory small that is only written: they add no shape, and take none of the written operands' sizes.
-use Rattle.std.proofs.Common.{◌≡◌, ◌⊎◌, inl, inr, ℕ, zero, suc, ◌+◌, ◌<◌, ◌≤◌, ◌==◌, ◌&&◌, ◌||◌, not, List, [], ◌∷◌, ◌++◌, length, map, Bool, true, false, IsTrue, Option, None, Some, bit_and, slice_get, option_to_list, refl, sym, ap, subst, ◌∙◌, arith, Unit, if◌then◌else◌}
+use Rattle.std.proofs.Common.{◌≡◌, ◌⊎◌, inl, inr, ℕ, zero, suc, ◌+◌, ◌<◌, ◌≤◌, ◌==◌, ◌&&◌, ◌||◌, not, List, [], ◌∷◌, ◌++◌, length, map, Bool, true, false, IsTrue, Option, None, Some, bit_and, slice_get, option_to_list, refl, sym, ap, subst, ◌∙◌, arith, if◌then◌else◌}
 use Rattle.std.specs.List.{list_any, flat_map}
 use Rattle.std.specs.Option.{option_map}
 use Rattle.std.proofs.lemmas.Bool.{and_parts, and_from, not-true, both_ways, eqb-true}
@@ -100,11 +100,12 @@ lists_within before (x ∷ xs) (y ∷ ys) fewer z m =
     flat_within (λ kind. kind_lists (before ++ kind ∷ []) xs) (λ kind. kind_lists (before ++ kind ∷ []) ys)
     (λ kind. lists_within (before ++ kind ∷ []) xs ys fewer.1) (kinds_after before x) (kinds_after before y) (kinds_within before x y fewer.0) z m
 
-if_within : (a b : Bool) (rest : List Kind) → (a ≡ true → b ≡ true) → IsWithin ((if a then Kind.Register ∷ [] else []) ++ rest) ((if b then Kind.Register ∷ [] else []) ++ rest)
-if_within false false rest up z m = m
-if_within false true rest up z m = inr m
-if_within true false rest up z m = let e : false ≡ true = up refl in cc
-if_within true true rest up z m = m
+if_within : (a b : Bool) (xs ys : List Kind) → (a ≡ true → b ≡ true)
+    → IsWithin ((if a then Kind.Register ∷ [] else []) ++ xs ++ ys) ((if b then Kind.Register ∷ [] else []) ++ xs ++ ys)
+if_within false false xs ys up z m = m
+if_within false true xs ys up z m = inr m
+if_within true false xs ys up z m = let e : false ≡ true = up refl in cc
+if_within true true xs ys up z m = m
 
 module _ (items : List Item) where
   some_registers : (k : ℕ) (pair : Bool) (regs : RegSet) → (pair || not ((registers_with items k regs).0 == 0)) ≡ true → (pair || not (regs.0 == 0)) ≡ true
@@ -121,7 +122,7 @@ module _ (items : List Item) where
   fewer_with : (k : ℕ) (output : Bool) (alt : AltIface) → IsFewer (alternative_with items k output alt) alt
   fewer_with k output alt = record {
     tied = refl;
-    kinds = if_within _ _ _ (some_registers k alt.pair alt.regs);
+    kinds = if_within _ _ _ _ (some_registers k alt.pair alt.regs);
   }
 
   module _ (a : ℕ) where
@@ -143,6 +144,21 @@ module _ (items : List Item) where
     unfolding operands_with
     all_fewer k [] = tt
     all_fewer k (o ∷ os) = one_fewer k o (flat_map allowed (operands_with items (k + 1) os)) (flat_map allowed os) (all_fewer (k + 1) os)
+
+-- ---- what stands at an operand
+
+module _ (w : Interface) (k : ℕ) where
+  input_there : (o : OperandIface) → slice_get w.operands k ≡ Some o → is_input_at w k ≡ is_input o.role
+  input_there o e = rw (e, is_input_at, operand_has) refl
+
+  input_nowhere : slice_get w.operands k ≡ None → is_input_at w k ≡ false
+  input_nowhere e = rw (e, is_input_at, operand_has) refl
+
+  size_there : (o : OperandIface) → slice_get w.operands k ≡ Some o → size_at w k ≡ o.size
+  size_there o e = rw (e, size_at) refl
+
+  size_nowhere : slice_get w.operands k ≡ None → size_at w k ≡ 0
+  size_nowhere e = rw (e, size_at) refl
 
 -- ---- shapes
 
@@ -205,17 +221,17 @@ module _ (items : List Item) (i : Interface) where
     input_before k h = by (slice_get i.operands k) refl
       where
         by : (found : Option OperandIface) → slice_get i.operands k ≡ found → is_input_at i k ≡ false
-        by None e = rw e refl
+        by None e = input_nowhere i k e
         by (Some o) e =
-            let e2 : slice_get patched.operands k ≡ Some (operand_with items k o) = with_at items i k ∙ ap (option_map (operand_with items k)) e in
-            rw e (unread_before items k o.role (rw e2 at h))
+            input_there i k o e
+            ∙ unread_before items k o.role (sym (input_there patched k (operand_with items k o) (with_at items i k ∙ ap (option_map (operand_with items k)) e)) ∙ h)
 
     size_same : (k : ℕ) → size_at patched k ≡ size_at i k
     size_same k = by (slice_get i.operands k) refl
       where
         by : (found : Option OperandIface) → slice_get i.operands k ≡ found → size_at patched k ≡ size_at i k
-        by None e = let e2 : slice_get patched.operands k ≡ None = with_at items i k ∙ ap (option_map (operand_with items k)) e in rw (e, e2) refl
-        by (Some o) e = let e2 : slice_get patched.operands k ≡ Some (operand_with items k o) = with_at items i k ∙ ap (option_map (operand_with items k)) e in rw (e, e2) refl
+        by None e = size_nowhere patched k (with_at items i k ∙ ap (option_map (operand_with items k)) e) ∙ sym (size_nowhere i k e)
+        by (Some o) e = size_there patched k (operand_with items k o) (with_at items i k ∙ ap (option_map (operand_with items k)) e) ∙ sym (size_there i k o e)
 
     address_same : (k : ℕ) → has_address patched s k ≡ has_address i s k
     address_same k = ap (λ root. in_memory s k && root == k) (root_same k)
