@@ -1,6 +1,7 @@
 pub mod FindingLaws
 pub mod InterfaceLaws
 pub mod LetterLaws
+pub mod ReachedLaws
 pub mod RoundLaws
 pub mod SmallLaws
 pub mod ThinLaws

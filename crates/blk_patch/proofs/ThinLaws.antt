@@ -1,5 +1,5 @@
 -- Items are dropped one after another: what is left of the rest is left of the whole.
-use Rattle.std.proofs.Common.{◌≡◌, ℕ, suc, ◌+◌, ◌<◌, ◌≤◌, List, [], ◌∷◌, ◌++◌, length, take, drop, get_or, true, false, refl, sym, ap, subst, ◌∙◌, length-append, arith}
+use Rattle.std.proofs.Common.{◌≡◌, ℕ, suc, ◌+◌, ◌<◌, ◌≤◌, List, [], ◌∷◌, ◌++◌, length, take, drop, get_or, Bool, true, false, refl, sym, ap, subst, ◌∙◌, length-append, arith}
 use Rattle.std.specs.List.{remove}
 use Rattle.std.proofs.Math.Seq.{take-append_seam, drop-append_seam}
 use Rattle.std.proofs.lemmas.List.{drop_all, drop_more, take_all, take_more, length-take-le}
@@ -61,3 +61,19 @@ module _ (s : Statement) (i : Interface) (whole : List Item) where
           (subst (λ k. IsThinned s i k rest left) (take_more items at Item.Memory inside)
           (subst (λ n. IsThinned s i (take (at + 1) items) (drop n items) left) next thinned))));
     }
+
+  -- the items are handed on as slices
+  module _ (at : ℕ) (items given others handed : List Item) (accepted : Bool) (inside : at < length items) (same : given ≡ items) (is_others : others ≡ remove given at)
+      (same_too : handed ≡ others) (told : TellsOk s (with_items handed i) accepted) (so_far : IsThinning s i whole at items) where
+    others_are : others ≡ remove items at
+    others_are = is_others ∙ ap (λ l. remove l at) same
+
+    told_of_others : (b : Bool) → accepted ≡ b → TellsOk s (with_items (remove items at) i) b
+    told_of_others b e =
+        subst (λ l. TellsOk s (with_items l i) b) (same_too ∙ others_are) (subst (λ (x : Bool). TellsOk s (with_items handed i) x) e told)
+
+    pub drops_one : accepted ≡ true → IsThinning s i whole at others
+    drops_one e = subst (IsThinning s i whole at) (sym others_are) (thinning_drops at items inside so_far (told_of_others true e))
+
+    pub keeps_one : accepted ≡ false → IsThinning s i whole (at + 1) items
+    keeps_one e = thinning_keeps at items inside so_far (told_of_others false e)

@@ -1,6 +1,6 @@
 //! The patch of a statement, or why there is none.
 
-ghost use Rattle.std.specs.Prelude.{◌≡◌, ◌≤◌, ◌∷◌, length, IfOk};
+ghost use Rattle.std.specs.Prelude.{◌≡◌, ◌≤◌, ◌∷◌, length, find, IfOk};
 ghost use Rattle.asm_core.specs.WellFormed.{IsInterface};
 ghost use Rattle.blk_check.specs.Judged.{IsInterfaceOf};
 ghost use Rattle.blk_patch.specs.Rounds.{IsPatch, IsReachedEnd, IsEnd, IsAcceptedEnd, IsRefusedEnd, AreSome, refusing, has_no_item, is_without_room};
@@ -88,11 +88,18 @@ fn refusing(body: &Body, patched: &Interface, first: Finding, findings: &[Findin
     requires { length patched.now.operands ≤ 30 }
     ensures { result ≡ refusing body.now patched.now first findings.now }
 {
-    match findings
-        .iter()
-        .find(|finding| item_of(body, patched, finding).is_none())
-    {
-        Some(finding) => *finding,
+    match first_itemless(body, patched, findings) {
+        Some(finding) => finding,
         None => first,
     }
+}
+
+fn first_itemless(body: &Body, patched: &Interface, findings: &[Finding]) -> Option<Finding>
+    requires { length patched.now.operands ≤ 30 }
+    ensures { result ≡ find (has_no_item body.now patched.now) findings.now }
+{
+    findings
+        .iter()
+        .find(|finding| item_of(body, patched, finding).is_none())
+        .copied()
 }
