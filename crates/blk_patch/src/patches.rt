@@ -100,6 +100,13 @@ fn first_itemless(body: &Body, patched: &Interface, findings: &[Finding]) -> Opt
 {
     findings
         .iter()
-        .find(|finding| item_of(body, patched, finding).is_none())
+        .find(|finding| has_no_item(body, patched, finding))
         .copied()
+}
+
+fn has_no_item(body: &Body, patched: &Interface, finding: &Finding) -> bool
+    requires { length patched.now.operands ≤ 30 }
+    ensures { result ≡ has_no_item body.now patched.now finding.now }
+{
+    item_of(body, patched, finding).is_none()
 }
