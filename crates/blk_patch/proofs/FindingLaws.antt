@@ -1,5 +1,5 @@
 -- New items of findings, one finding at a time.
-use Rattle.std.proofs.Common.{◌≡◌, ℕ, ◌+◌, ◌<◌, ◌≤◌, List, length, drop, get_or, Bool, true, false, Option, None, Some, is_some, refl, sym, ap, ◌∙◌}
+use Rattle.std.proofs.Common.{◌≡◌, ℕ, ◌+◌, ◌<◌, ◌≤◌, List, ◌∷◌, length, find, drop, get_or, Bool, true, false, Option, None, Some, is_some, refl, sym, ap, ◌∙◌}
 use Rattle.std.proofs.lemmas.List.{drop_all, drop_more}
 use Rattle.asm_core.specs.declared.finding.Finding.{Finding}
 use Rattle.asm_core.specs.declared.statement.Body.{Body}
@@ -7,6 +7,23 @@ use Rattle.asm_core.specs.declared.interface.Interface.{Interface}
 use Rattle.blk_patch.specs.Suggested.{or_item}
 use Rattle.blk_patch.specs.Rounds.{new_item, first_new, if_clobber, first_clobber}
 use Rattle.blk_patch.specs.declared.item.Item.{Item}
+
+module _ {A : Type 0} (p : A → Bool) where
+  found : (x : A) (rest : List A) → p x ≡ true → find p (x ∷ rest) ≡ Some x
+  found x rest e = rw e refl
+
+  passed : (x : A) (rest : List A) → p x ≡ false → find p (x ∷ rest) ≡ find p rest
+  passed x rest e = rw e refl
+
+  pub found_done : (xs : List A) (k : ℕ) → length xs ≤ k → find p (drop k xs) ≡ None
+  found_done xs k le = ap (find p) (drop_all k xs le)
+
+  module _ (xs : List A) (k : ℕ) (d : A) (lt : k < length xs) (so_far : find p (drop k xs) ≡ find p xs) where
+    pub found_here : p (get_or xs k d) ≡ true → Some (get_or xs k d) ≡ find p xs
+    found_here e = sym (sym so_far ∙ ap (find p) (drop_more xs k d lt) ∙ found (get_or xs k d) (drop (k + 1) xs) e)
+
+    pub found_next : p (get_or xs k d) ≡ false → find p (drop (k + 1) xs) ≡ find p xs
+    found_next e = sym (ap (find p) (drop_more xs k d lt) ∙ passed (get_or xs k d) (drop (k + 1) xs) e) ∙ so_far
 
 module _ (body : Body) (w : Interface) (items : List Item) (fs : List Finding) (k : ℕ) where
   pub new_more : (f : Finding) → k < length fs

@@ -94,14 +94,17 @@ fn refusing(body: &Body, patched: &Interface, first: Finding, findings: &[Findin
     }
 }
 
+#[tactic(auto, using(crate::proofs::FindingLaws::found_done))]
 fn first_itemless(body: &Body, patched: &Interface, findings: &[Finding]) -> Option<Finding>
     requires { length patched.now.operands ≤ 30 }
     ensures { result ≡ find (has_no_item body.now patched.now) findings.now }
 {
-    findings
-        .iter()
-        .find(|finding| has_no_item(body, patched, finding))
-        .copied()
+    for finding in findings {
+        if has_no_item(body, patched, finding) {
+            return Some(*finding);
+        }
+    }
+    None
 }
 
 fn has_no_item(body: &Body, patched: &Interface, finding: &Finding) -> bool
