@@ -1,5 +1,5 @@
 -- Operands with items, one at a time.
-use Rattle.std.proofs.Common.{◌≡◌, ℕ, zero, suc, ◌+◌, ◌<◌, List, [], ◌∷◌, ◌++◌, length, take, get_or, refl, ap, sym, subst, ◌∙◌, arith}
+use Rattle.std.proofs.Common.{◌≡◌, ℕ, zero, suc, ◌+◌, ◌<◌, List, [], ◌∷◌, ◌++◌, length, take, get_or, refl, ap, subst, arith}
 use Rattle.asm_core.specs.declared.interface.OperandIface.{OperandIface}
 use Rattle.blk_patch.specs.Items.{operand_with, operands_with}
 use Rattle.blk_patch.specs.declared.item.Item.{Item}

@@ -1,5 +1,5 @@
 -- Each round adds an item that isn't there, and there are 99 of them.
-use Rattle.std.proofs.Common.{◌≡◌, ◌⊎◌, inl, inr, ℕ, zero, suc, ◌+◌, ◌-◌, ◌*◌, ◌||◌, ◌<◌, ◌≤◌, ◌==◌, ◌&&◌, not, nat_lt, List, [], ◌∷◌, ◌++◌, length, map, count_by, Bool, true, false, Option, None, Some, slice_get, All, refl, sym, ap, subst, ◌∙◌, arith, if◌then◌else◌}
+use Rattle.std.proofs.Common.{◌≡◌, ◌⊎◌, inl, inr, ℕ, ◌-◌, ◌||◌, ◌<◌, ◌≤◌, ◌==◌, List, [], ◌∷◌, ◌++◌, length, map, Bool, true, false, Option, None, Some, slice_get, refl, sym, ap, subst, ◌∙◌, arith, if◌then◌else◌}
 use Rattle.std.specs.List.{list_any, IsDistinct}
 use Rattle.std.proofs.Math.Dec.{eqb}
 use Rattle.std.proofs.lemmas.Bool.{and_parts, eqb-true, eq-eqb, both_ways, ne_eqb}
@@ -11,7 +11,6 @@ use Rattle.std.proofs.lemmas.Option.{slice_get_within}
 use Rattle.std.specs.Cmp.{IsEquivalence}
 use Rattle.asm_core.specs.Reg.{reg_number}
 use Rattle.asm_core.specs.WellFormed.{IsInterface}
-use Rattle.asm_core.specs.Placement.{is_output}
 use Rattle.asm_core.specs.declared.reg.Reg.{Reg}
 use Rattle.asm_core.specs.declared.reg.Reg.TheVariants.{Eax, Ebx, Ecx, Edx, Esi, Edi, Ebp}
 use Rattle.asm_core.specs.declared.finding.Rule.{Rule}
@@ -23,10 +22,10 @@ use Rattle.asm_core.specs.declared.statement.Body.{Body}
 use Rattle.asm_core.specs.declared.statement.Statement.{Statement}
 use Rattle.asm_core.specs.declared.interface.OperandIface.{OperandIface}
 use Rattle.asm_core.specs.declared.interface.Interface.{Interface}
-use Rattle.blk_check.specs.Judged.{IsInterfaceOf, IsVerdict}
+use Rattle.blk_check.specs.Judged.{IsInterfaceOf}
 use Rattle.blk_check.specs.declared.verdict.Verdict.{Verdict}
 use Rattle.blk_patch.specs.Items.{item_number, has, with_items}
-use Rattle.blk_patch.specs.Suggested.{clobber_of, output_in, early_of, or_item, overwriter_item, written_in, ties_to, is_in_out, may_be_read, plus_of, may_lose_high, byte_if, byte_in, byte_of, item_by, item_of}
+use Rattle.blk_patch.specs.Suggested.{clobber_of, output_in, early_of, or_item, overwriter_item, written_in, may_be_read, plus_of, may_lose_high, byte_in, byte_of, item_by, item_of}
 use Rattle.blk_patch.specs.Rounds.{unless_there, new_item, first_new, if_clobber, first_clobber, preferred, next_item, is_without_room, next_by, IsReached}
 use Rattle.blk_patch.specs.declared.item.Item.{Item}
 use Rattle.blk_patch.proofs.WithLaws.{with_long}

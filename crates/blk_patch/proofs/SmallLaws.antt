@@ -1,8 +1,8 @@
 -- Items leave memory small that is only written: they add no shape, and take none of the written operands' sizes.
-use Rattle.std.proofs.Common.{◌≡◌, ◌⊎◌, inl, inr, ℕ, zero, suc, ◌+◌, ◌<◌, ◌≤◌, ◌==◌, ◌&&◌, ◌||◌, not, List, [], ◌∷◌, ◌++◌, length, map, Bool, true, false, IsTrue, Option, None, Some, bit_and, slice_get, option_to_list, refl, sym, ap, subst, ◌∙◌, arith, if◌then◌else◌}
+use Rattle.std.proofs.Common.{◌≡◌, ◌⊎◌, inl, inr, ℕ, suc, ◌+◌, ◌≤◌, ◌==◌, ◌&&◌, ◌||◌, not, List, [], ◌∷◌, ◌++◌, length, map, Bool, true, false, IsTrue, Option, None, Some, bit_and, slice_get, option_to_list, refl, sym, ap, subst, ◌∙◌, arith, if◌then◌else◌}
 use Rattle.std.specs.List.{list_any, flat_map}
 use Rattle.std.specs.Option.{option_map}
-use Rattle.std.proofs.lemmas.Bool.{and_parts, and_from, not-true, both_ways, eqb-true}
+use Rattle.std.proofs.lemmas.Bool.{and_parts, not-true, eqb-true}
 use Rattle.std.proofs.lemmas.Option.{slice_get-map}
 use Rattle.asm_core.specs.Lists.{count_from, IsMember}
 use Rattle.asm_core.specs.Placement.{is_output, is_input, tie_root}
@@ -14,7 +14,7 @@ use Rattle.asm_core.specs.declared.shape.Shape.{Shape}
 use Rattle.asm_core.specs.declared.interface.AltIface.{AltIface}
 use Rattle.asm_core.specs.declared.interface.OperandIface.{OperandIface}
 use Rattle.asm_core.specs.declared.interface.Interface.{Interface}
-use Rattle.blk_deps.specs.Operands.{IsSmall, in_memory, operand_has, size_at, is_input_at, numbers_in, is_root, has_address, has_tied, is_written_only}
+use Rattle.blk_deps.specs.Operands.{IsSmall, in_memory, operand_has, size_at, is_input_at, numbers_in, has_address, has_tied, is_written_only}
 use Rattle.blk_patch.specs.Items.{has, registers_with, alternative_with, operand_with, operands_with, with_items}
 use Rattle.blk_patch.specs.declared.item.Item.{Item}
 use Rattle.blk_patch.proofs.WithLaws.{operands_long, with_at, unread_before}
@@ -115,6 +115,7 @@ module _ (items : List Item) where
       none : (b : Bool) → (regs.0 == 0) ≡ b → not (bit_and regs.0 15 == 0) ≡ true → not (regs.0 == 0) ≡ true
       none false z h = rw z refl
       none true z h = let zero_is : regs.0 ≡ 0 = eqb-true regs.0 0 z in let wrong : not (bit_and 0 15 == 0) ≡ true = rw zero_is at h in cc
+
       by : (b : Bool) → has items (Item.Byte k) ≡ b → not (regs.0 == 0) ≡ true
       by true h = none (regs.0 == 0) refl (rw h at e)
       by false h = rw h at e
@@ -134,6 +135,7 @@ module _ (items : List Item) where
       where
         f : AltIface → AltIface
         f = alternative_with items k (is_output o.role)
+
         by : (found : Option AltIface) → slice_get o.alts a ≡ found → AreFewer (allowed (operand_with items k o) ++ xs) (allowed o ++ ys)
         by None e = let e2 : slice_get (operand_with items k o).alts a ≡ None = slice_get-map (alternative_with items k (is_output o.role)) o.alts a ∙ ap (option_map (alternative_with items k (is_output o.role))) e in
             rw (e, e2) fewer
@@ -203,6 +205,7 @@ module _ (items : List Item) (i : Interface) where
             root_is patched s k (operand_with items k o) (Some (alternative_with items k (is_output o.role) alt)) (with_at items i k ∙ ap (option_map (operand_with items k)) e)
             (slice_get-map (alternative_with items k (is_output o.role)) o.alts s.alternative ∙ ap (option_map (alternative_with items k (is_output o.role))) f)
             ∙ sym (root_is i s k o (Some alt) e f)
+
         by : (found : Option OperandIface) → slice_get i.operands k ≡ found → tie_root patched s k ≡ tie_root i s k
         by None e = let e2 : slice_get patched.operands k ≡ None = with_at items i k ∙ ap (option_map (operand_with items k)) e in rw (e, e2) refl
         by (Some o) e = in_alternative o e (slice_get o.alts s.alternative) refl

@@ -29,7 +29,11 @@ pub enum PatchEnd {
 }
 
 /// Looks for a patch of the statement that has this interface.
-pub fn patch(alloc: Global, statement: &Statement, interface: &Interface) -> Result<PatchEnd, Memory>
+pub fn patch(
+    alloc: Global,
+    statement: &Statement,
+    interface: &Interface,
+) -> Result<PatchEnd, Memory>
     requires interface { IsInterface interface.now }
     requires stated { IsInterfaceOf interface.now statement.now }
     ensures { IfOk result (IsPatch statement.now interface.now) }

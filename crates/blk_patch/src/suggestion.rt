@@ -159,7 +159,9 @@ fn byte_of(body: &Body, cell: Cell) -> Option<Item>
     ensures { result ≡ byte_of body.now cell }
 {
     match (body, cell) {
-        (Body::Parts(parts), Cell::Operand(k)) if may_lose_high(part(parts, k as usize)) => Some(Item::Byte(k)),
+        (Body::Parts(parts), Cell::Operand(k)) if may_lose_high(part(parts, k as usize)) => Some(
+            Item::Byte(k),
+        ),
         _ => None,
     }
 }
