@@ -1,0 +1,13 @@
+//! Patches a statement: what its constraints and its clobber list lack, and nothing beside it.
+#![tactic(auto)]
+
+mod interface;
+mod item;
+mod letters;
+mod patches;
+mod rounds;
+mod suggestion;
+mod thinning;
+
+pub use item::Item;
+pub use patches::{PatchEnd, patch};
