@@ -28,7 +28,7 @@ module _ {A : Type 0} (p : A → Bool) where
 module _ (body : Body) (w : Interface) (items : List Item) (fs : List Finding) (k : ℕ) where
   pub new_more : (f : Finding) → k < length fs
       → first_new body w items (drop k fs) ≡ or_item (new_item body w items (get_or fs k f))
-          (first_new body w items (drop (k + 1) fs))
+      (first_new body w items (drop (k + 1) fs))
   unfolding first_new
   new_more f lt = ap (first_new body w items) (drop_more fs k f lt)
 
@@ -38,7 +38,7 @@ module _ (body : Body) (w : Interface) (items : List Item) (fs : List Finding) (
 
   pub clobber_more : (f : Finding) → k < length fs
       → first_clobber body w items (drop k fs) ≡ or_item (if_clobber (new_item body w items (get_or fs k f)))
-          (first_clobber body w items (drop (k + 1) fs))
+      (first_clobber body w items (drop (k + 1) fs))
   unfolding first_clobber
   clobber_more f lt = ap (first_clobber body w items) (drop_more fs k f lt)
 
@@ -49,7 +49,7 @@ module _ (body : Body) (w : Interface) (items : List Item) (fs : List Finding) (
   module _ (f : Finding) (lt : k < length fs) where
     pub new_here : first_new body w items (drop k fs) ≡ first_new body w items fs
         → (item : Option Item) → item ≡ new_item body w items (get_or fs k f) → is_some item ≡ true
-            → item ≡ first_new body w items fs
+        → item ≡ first_new body w items fs
     new_here so_far None is some = cc
     new_here so_far (Some x) is some = sym (sym so_far ∙ new_more f lt ∙ ap
         (λ o. or_item o (first_new body w items (drop (k + 1) fs))) (sym is))
@@ -63,7 +63,7 @@ module _ (body : Body) (w : Interface) (items : List Item) (fs : List Finding) (
 
     pub clobber_here : first_clobber body w items (drop k fs) ≡ first_clobber body w items fs
         → (item : Option Item) → item ≡ if_clobber (new_item body w items (get_or fs k f)) → is_some item ≡ true
-            → item ≡ first_clobber body w items fs
+        → item ≡ first_clobber body w items fs
     clobber_here so_far None is some = cc
     clobber_here so_far (Some x) is some = sym (sym so_far ∙ clobber_more f lt ∙ ap
         (λ o. or_item o (first_clobber body w items (drop (k + 1) fs))) (sym is))

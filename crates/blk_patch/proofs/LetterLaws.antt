@@ -6,7 +6,7 @@ use Rattle.blk_patch.specs.Suggested.{is_high_letter, is_inside_after, has_high_
 -- the first byte and the others
 pub high_more : (inside : Bool) (bs : List ℕ) (k b : ℕ) → k < length bs
     → has_high_from inside (drop k bs) ≡ ((not inside && is_high_letter (get_or bs k b)) || has_high_from
-        (is_inside_after inside (get_or bs k b)) (drop (k + 1) bs))
+    (is_inside_after inside (get_or bs k b)) (drop (k + 1) bs))
 unfolding has_high_from
 high_more inside bs k b lt = ap (has_high_from inside) (drop_more bs k b lt)
 
@@ -27,5 +27,5 @@ module _ (inside : Bool) (bs : List ℕ) (k d : ℕ) (lt : k < length bs)
   high_next after is low =
       ap (λ b. has_high_from b (drop (k + 1) bs)) is
       ∙ sym (high_more inside bs k d lt ∙ ap (λ b. b || has_high_from (is_inside_after inside (get_or bs k d))
-          (drop (k + 1) bs)) low)
+      (drop (k + 1) bs)) low)
       ∙ so_far

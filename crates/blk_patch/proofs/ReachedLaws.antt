@@ -48,4 +48,4 @@ module _ (s : Statement) (i : Interface) (items : List Item) where
       → IsReached s i after → 99 - length after < 99 - length items
   fewer interface stated x after is reached =
       subst (λ l. 99 - length l < 99 - length items) (sym is)
-          (fewer_left s i interface stated items x (subst (IsReached s i) is reached))
+      (fewer_left s i interface stated items x (subst (IsReached s i) is reached))

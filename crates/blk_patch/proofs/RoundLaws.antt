@@ -272,7 +272,7 @@ one_below q n lt e = by (eqb q n) refl
 one_more : (items : List Item) (x : Item) → AreNumbered items → IsNew items x → AreNumbered (items ++ x ∷ [])
 one_more items x are new =
     let whole : numbers (items ++ x ∷ []) ≡ numbers items ++ item_number x ∷ [] = map-append item_number items
-        (x ∷ []) in
+    (x ∷ []) in
     record {
       distinct = subst (IsDistinct eqb) (sym whole) (IsDistinct-push numbers_equal (numbers items)
           (item_number x) are.distinct (is_there items x ∙ new.fresh));
@@ -301,13 +301,13 @@ module _ (s : Statement) (i : Interface) (is : IsInterface i) (stated : IsInterf
   numbered items (IsReached.adds before v x reached verdict next) =
       one_more before x (numbered before reached)
       (round_is s.body parts_few (with_items before i) (subst (λ n. n ≤ 30)
-          (sym (with_long before i)) is.few) before v x next)
+      (sym (with_long before i)) is.few) before v x next)
 
   pub reached_few : (items : List Item) → IsReached s i items → length items ≤ 99
   reached_few items reached =
       let are = numbered items reached in
       subst (λ n. n ≤ 99) (length-map items item_number) (length-le_from_distinct_below
-          (numbers items) 99 are.distinct are.below)
+      (numbers items) 99 are.distinct are.below)
 
   -- with one item more there are fewer left
   pub fewer_left : (items : List Item) (x : Item) → IsReached s i (items ++ x ∷ [])

@@ -103,7 +103,7 @@ lists_within before (x ∷ xs) [] fewer z m = absurd fewer
 lists_within before (x ∷ xs) (y ∷ ys) fewer z m =
     flat_within (λ kind. kind_lists (before ++ kind ∷ []) xs) (λ kind. kind_lists (before ++ kind ∷ []) ys)
     (λ kind. lists_within (before ++ kind ∷ []) xs ys fewer.1) (kinds_after before x) (kinds_after before y)
-        (kinds_within before x y fewer.0) z m
+    (kinds_within before x y fewer.0) z m
 
 if_within : (a b : Bool) (xs ys : List Kind) → (a ≡ true → b ≡ true)
     → IsWithin ((if a then Kind.Register ∷ [] else []) ++ xs ++ ys) ((if b then Kind.Register ∷ [] else []) ++ xs ++ ys)
@@ -201,10 +201,10 @@ module _ (items : List Item) (i : Interface) where
   unfolding with_items
   shapes_before =
       flat_within (λ a. map (λ kinds. record { alternative = a; kinds = kinds })
-          (kind_lists [] (alternative_of patched a)))
+      (kind_lists [] (alternative_of patched a)))
       (λ a. map (λ kinds. record { alternative = a; kinds = kinds }) (kind_lists [] (alternative_of i a)))
       (λ a. map_within (λ kinds. record { alternative = a; kinds = kinds }) (kind_lists [] (alternative_of patched a))
-          (kind_lists [] (alternative_of i a))
+      (kind_lists [] (alternative_of i a))
       (lists_within [] (alternative_of patched a) (alternative_of i a) (all_fewer items a 0 i.operands)))
       (alternatives_of patched) (alternatives_of i)
       (subst (λ l. IsWithin l (alternatives_of i)) (sym alternatives_same) (λ x m. m))
@@ -219,15 +219,15 @@ module _ (items : List Item) (i : Interface) where
             → slice_get o.alts s.alternative ≡ found → tie_root patched s k ≡ tie_root i s k
         in_alternative o e None f =
             root_is patched s k (operand_with items k o) None
-                (with_at items i k ∙ ap (option_map (operand_with items k)) e)
+            (with_at items i k ∙ ap (option_map (operand_with items k)) e)
             (slice_get-map (alternative_with items k (is_output o.role)) o.alts s.alternative ∙ ap
-                (option_map (alternative_with items k (is_output o.role))) f)
+            (option_map (alternative_with items k (is_output o.role))) f)
             ∙ sym (root_is i s k o None e f)
         in_alternative o e (Some alt) f =
             root_is patched s k (operand_with items k o) (Some (alternative_with items k (is_output o.role) alt))
-                (with_at items i k ∙ ap (option_map (operand_with items k)) e)
+            (with_at items i k ∙ ap (option_map (operand_with items k)) e)
             (slice_get-map (alternative_with items k (is_output o.role)) o.alts s.alternative ∙ ap
-                (option_map (alternative_with items k (is_output o.role))) f)
+            (option_map (alternative_with items k (is_output o.role))) f)
             ∙ sym (root_is i s k o (Some alt) e f)
 
         by : (found : Option OperandIface) → slice_get i.operands k ≡ found → tie_root patched s k ≡ tie_root i s k
@@ -253,7 +253,7 @@ module _ (items : List Item) (i : Interface) where
         by (Some o) e =
             input_there i k o e
             ∙ unread_before items k o.role (sym (input_there patched k (operand_with items k o)
-                (with_at items i k ∙ ap (option_map (operand_with items k)) e)) ∙ h)
+            (with_at items i k ∙ ap (option_map (operand_with items k)) e)) ∙ h)
 
     size_same : (k : ℕ) → size_at patched k ≡ size_at i k
     size_same k = by (slice_get i.operands k) refl

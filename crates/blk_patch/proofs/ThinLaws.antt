@@ -51,9 +51,9 @@ module _ (s : Statement) (i : Interface) (whole : List Item) where
           (subst (λ r. IsThinned s i kept r left) (sym split)
           (IsThinned.drops kept x rest left told.verdict told.is_verdict told.tells
           (subst (λ k. IsThinned s i k rest left) (subst (λ n. take n (kept ++ rest) ≡ kept) kept_long
-              (take-append_seam kept rest))
+          (take-append_seam kept rest))
           (subst (λ r. IsThinned s i (take at (kept ++ rest)) r left)
-              (subst (λ n. drop n (kept ++ rest) ≡ rest) kept_long (drop-append_seam kept rest)) thinned))));
+          (subst (λ n. drop n (kept ++ rest) ≡ rest) kept_long (drop-append_seam kept rest)) thinned))));
     }
 
     pub thinning_keeps : IsThinning s i whole at items → TellsOk s (with_items (remove items at) i) false
@@ -71,14 +71,14 @@ module _ (s : Statement) (i : Interface) (whole : List Item) where
   module _ (at : ℕ) (items given others handed : List Item) (accepted : Bool) (inside : at < length items)
       (same : given ≡ items) (is_others : others ≡ remove given at)
       (same_too : handed ≡ others) (told : TellsOk s (with_items handed i) accepted)
-          (so_far : IsThinning s i whole at items) where
+      (so_far : IsThinning s i whole at items) where
     others_are : others ≡ remove items at
     others_are = is_others ∙ ap (λ l. remove l at) same
 
     told_of_others : (b : Bool) → accepted ≡ b → TellsOk s (with_items (remove items at) i) b
     told_of_others b e =
         subst (λ l. TellsOk s (with_items l i) b) (same_too ∙ others_are)
-            (subst (λ (x : Bool). TellsOk s (with_items handed i) x) e told)
+        (subst (λ (x : Bool). TellsOk s (with_items handed i) x) e told)
 
     pub drops_one : accepted ≡ true → IsThinning s i whole at others
     drops_one e = subst (IsThinning s i whole at) (sym others_are)

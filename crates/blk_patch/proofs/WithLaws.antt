@@ -98,7 +98,7 @@ module _ (items : List Item) (i : Interface) where
   was_alternative_of k a o alt was e =
       let f = alternative_with items k (is_output was.before.role) in
       let at : slice_get (map f was.before.alts) a ≡ Some alt = subst
-          (λ (q : OperandIface). slice_get q.alts a ≡ Some alt) (sym was.same) e in
+      (λ (q : OperandIface). slice_get q.alts a ≡ Some alt) (sym was.same) e in
       let alternative = mapped f (slice_get was.before.alts a) alt (sym (slice_get-map f was.before.alts a) ∙ at) in
       record {
         operand = was.before;
@@ -128,7 +128,7 @@ module _ (items : List Item) (i : Interface) where
     same_counts k j o q a b =
         subst (λ (x : OperandIface). length x.alts ≡ length q.alts) a.same
         (subst (λ (x : OperandIface). length (map (alternative_with items k
-            (is_output a.before.role)) a.before.alts) ≡ length x.alts) b.same
+        (is_output a.before.role)) a.before.alts) ≡ length x.alts) b.same
         (length-map a.before.alts (alternative_with items k (is_output a.before.role))
         ∙ is.counts k j a.before b.before a.there b.there
         ∙ sym (length-map b.before.alts (alternative_with items j (is_output b.before.role)))))
@@ -178,7 +178,7 @@ module _ (items : List Item) (i : Interface) where
         subst (λ (q : OperandIface). is_output q.role ≡ true) was.same_operand
         (output_with items k was.operand.role
         ∙ marked k a was.operand was.before was.there was.before.early (is_output was.operand.role)
-            (has items (Item.Early k)) refl refl
+        (has items (Item.Early k)) refl refl
         (ap (λ (x : AltIface). x.early) was.same ∙ e))
 
     numbered : (o : OperandIface) (alt alt2 : AltIface) (k : ℕ) (range : ℤ × ℤ) → HasNumber o alt range

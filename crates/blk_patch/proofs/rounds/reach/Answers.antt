@@ -24,7 +24,7 @@ rounds-preserved c =
     let s = c.args.statement.now in
     let i = c.args.interface.now in
     let is = round s i c.rounds.items c.as_slice.result.now c.as_slice-in-rounds.result.now c.in_ok-patched.patched c.in_ok-verdict.verdict c.next_by.result
-    c.as_slice.ensures c.as_slice-in-rounds.ensures c.in_ok-patched.ensures c.in_ok-verdict.ensures c.next_by.ensures in
+    c.as_slice.ensures c.as_slice-in-rounds.ensures c.in_ok-patched.ensures c.in_ok-verdict.ensures.verdict c.next_by.ensures in
     added s i c.rounds.items c.in_ok-patched.patched c.in_ok-verdict.verdict c.next_by.result is c.in-Some.item c.push.new.self
     c.rounds.invariant c.in-Some.is c.in_ok-push-in-Some.ensures.ok
 
@@ -38,5 +38,5 @@ returns-in-None c =
     let s = c.args.statement.now in
     let i = c.args.interface.now in
     let is = round s i c.rounds.items c.as_slice.result.now c.as_slice-in-rounds.result.now c.in_ok-patched.patched c.in_ok-verdict.verdict c.next_by.result
-    c.as_slice.ensures c.as_slice-in-rounds.ensures c.in_ok-patched.ensures c.in_ok-verdict.ensures c.next_by.ensures in
+    c.as_slice.ensures c.as_slice-in-rounds.ensures c.in_ok-patched.ensures c.in_ok-verdict.ensures.verdict c.next_by.ensures in
     ended s i c.rounds.items c.in_ok-patched.patched c.in_ok-verdict.verdict c.next_by.result is c.rounds.invariant c.in-None.is

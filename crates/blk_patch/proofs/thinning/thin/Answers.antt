@@ -11,7 +11,7 @@ items-preserved-then-accepted c =
     let long = c.len.ensures in
     drops_one c.args.statement.now c.args.interface.now c.args.items c.items.at c.items.items c.as_slice.result.now c.in_ok-others.others c.as_slice-in-items.result.now
     c.in_ok-accepted.accepted
-        (omega (arith, test, long)) c.as_slice.ensures c.in_ok-others.ensures c.as_slice-in-items.ensures c.in_ok-accepted.ensures c.items.invariant
+    (omega (arith, test, long)) c.as_slice.ensures c.in_ok-others.ensures c.as_slice-in-items.ensures c.in_ok-accepted.ensures c.items.invariant
     c.if-accepted.true
 
 pub items-preserved : goal.items-preserved
@@ -20,7 +20,7 @@ items-preserved c =
     let long = c.len.ensures in
     keeps_one c.args.statement.now c.args.interface.now c.args.items c.items.at c.items.items c.as_slice.result.now c.in_ok-others.others c.as_slice-in-items.result.now
     c.in_ok-accepted.accepted
-        (omega (arith, test, long)) c.as_slice.ensures c.in_ok-others.ensures c.as_slice-in-items.ensures c.in_ok-accepted.ensures c.items.invariant
+    (omega (arith, test, long)) c.as_slice.ensures c.in_ok-others.ensures c.as_slice-in-items.ensures c.in_ok-accepted.ensures c.items.invariant
     c.if-accepted.false
 
 pub returns : goal.returns
@@ -28,4 +28,4 @@ returns c =
     let test = c.items-test.false in
     let long = c.len.ensures in
     thinning_ends c.args.statement.now c.args.interface.now c.args.items c.items.at c.items.items c.items.invariant
-        (omega (arith, test, long))
+    (omega (arith, test, long))
