@@ -1,5 +1,5 @@
 -- Each statement that is accepted keeps the frame.
-use Rattle.std.proofs.Common.{◌≡◌, inl, inr, ℕ, List, [], ◌∷◌, Bool, All, Option, Some, Result, Ok, Err, refl, subst}
+use Rattle.std.proofs.Common.{◌≡◌, inl, inr, ℕ, List, [], ◌∷◌, Bool, All, Option, Some, Result, Ok, Err, refl, sym, subst}
 use Rattle.std.proofs.lemmas.List.Elements.{All-head, All-tail}
 use Rattle.asm_core.specs.Interface.{interface_of}
 use Rattle.asm_core.specs.Lists.{IsMember}
