@@ -1,6 +1,7 @@
 //! Patches a statement: what its constraints and its clobber list lack, and nothing beside it.
 #![tactic(auto)]
 
+mod edits;
 mod interface;
 mod item;
 mod letters;
@@ -9,5 +10,6 @@ mod rounds;
 mod suggestion;
 mod thinning;
 
+pub use edits::edits;
 pub use item::Item;
 pub use patches::{PatchEnd, patch};

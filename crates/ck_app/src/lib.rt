@@ -5,6 +5,7 @@ mod command_line;
 mod judge;
 mod judgement;
 mod lines;
+mod patching;
 mod runner;
 mod status;
 mod words;

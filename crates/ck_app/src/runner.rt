@@ -13,7 +13,8 @@ use crate::judge::{Page, judge};
 use crate::lines::{cannot_be_read_line, too_large_line};
 use crate::words::{Check, asked_check};
 use asm_core::Memory;
-use ck_ports::{Files, PortEnd, ReadEnd, Sink, read_all, write_all};
+use crate::patching::patched_file;
+use ck_ports::{Files, PortEnd, ReadEnd, Sink, read_all, write_all, write_file};
 use std::alloc::Global;
 
 const USAGE: &str =
@@ -49,6 +50,11 @@ pub fn run<F: Files, K: Sink>(alloc: Global, words: &[String], files: &mut F, ou
     ensures reading { CountsReads (names_read (command_of (map string_bytes words.now)))
         (F.outside files.old) (F.outside files.new) }
 {
+    if let [_, mode, rest @ ..] = words {
+        if mode.as_str() == "patch" {
+            return patch_named(alloc, rest, files, out);
+        }
+    }
     match asked_check(words) {
         Some(check) => check_named(alloc, check, files, out),
         None => print(out, USAGE.as_bytes(), Status::Usage),
@@ -161,4 +167,25 @@ fn print<K: Sink>(out: &mut K, text: &[u8], status: Status) -> Status
         Err(PortEnd::Failed) => Status::WriteFault,
         Err(PortEnd::Memory) => Status::Memory,
     }
+}
+
+fn patch_named<F: Files, K: Sink>(alloc: Global, words: &[String], files: &mut F, out: &mut K) -> Status {
+    match words {
+        [strict, from, to] if strict.as_str() == "--strict-cc" => patch_file(alloc, true, from.as_str(), to.as_str(), files, out),
+        [from, to] => patch_file(alloc, false, from.as_str(), to.as_str(), files, out),
+        _ => print(out, USAGE.as_bytes(), Status::Usage),
+    }
+}
+
+fn patch_file<F: Files, K: Sink>(alloc: Global, strict: bool, from: &str, to: &str, files: &mut F, out: &mut K) -> Status {
+    let Ok(text) = read_all(alloc, files, from) else {
+        return Status::ReadFault;
+    };
+    let Ok(patched) = patched_file(alloc, strict, from, text.as_slice()) else {
+        return Status::Memory;
+    };
+    if write_file(files, to, patched.text.as_slice()).is_err() {
+        return Status::WriteFault;
+    }
+    print(out, patched.report.as_bytes(), Status::Done)
 }

@@ -6,4 +6,4 @@ mod places;
 mod reports;
 
 pub use place::Place;
-pub use reports::{Judged, report};
+pub use reports::{Judged, kind_name, report};

@@ -133,7 +133,7 @@ fn append_mark_line(
     Ok(())
 }
 
-fn kind_name(kind: MarkKind) -> &'static str
+pub fn kind_name(kind: MarkKind) -> &'static str
     ensures { result.now ≡ kind_name kind }
 {
     match kind {
