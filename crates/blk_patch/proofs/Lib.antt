@@ -1,7 +1,10 @@
+pub mod FindingLaws
 pub mod InterfaceLaws
 pub mod LetterLaws
+pub mod ReachedLaws
 pub mod RoundLaws
 pub mod SmallLaws
 pub mod ThinLaws
 pub mod VerdictLaws
 pub mod WithLaws
+pub mod WithStated

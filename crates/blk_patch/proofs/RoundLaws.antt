@@ -1,5 +1,5 @@
 -- Each round adds an item that isn't there, and there are 99 of them.
-use Rattle.std.proofs.Common.{◌≡◌, ◌⊎◌, inl, inr, ℕ, zero, suc, ◌+◌, ◌-◌, ◌*◌, ◌||◌, ◌<◌, ◌≤◌, ◌==◌, ◌&&◌, not, nat_lt, List, [], ◌∷◌, ◌++◌, length, map, count_by, Bool, true, false, Option, None, Some, slice_get, All, refl, sym, ap, subst, ◌∙◌, arith, tt, if◌then◌else◌}
+use Rattle.std.proofs.Common.{◌≡◌, ◌⊎◌, inl, inr, ℕ, ◌-◌, ◌||◌, ◌<◌, ◌≤◌, ◌==◌, List, [], ◌∷◌, ◌++◌, length, map, Bool, true, false, Option, None, Some, slice_get, refl, sym, ap, subst, ◌∙◌, arith, if◌then◌else◌}
 use Rattle.std.specs.List.{list_any, IsDistinct}
 use Rattle.std.proofs.Math.Dec.{eqb}
 use Rattle.std.proofs.lemmas.Bool.{and_parts, eqb-true, eq-eqb, both_ways, ne_eqb}
@@ -11,7 +11,6 @@ use Rattle.std.proofs.lemmas.Option.{slice_get_within}
 use Rattle.std.specs.Cmp.{IsEquivalence}
 use Rattle.asm_core.specs.Reg.{reg_number}
 use Rattle.asm_core.specs.WellFormed.{IsInterface}
-use Rattle.asm_core.specs.Placement.{is_output}
 use Rattle.asm_core.specs.declared.reg.Reg.{Reg}
 use Rattle.asm_core.specs.declared.reg.Reg.TheVariants.{Eax, Ebx, Ecx, Edx, Esi, Edi, Ebp}
 use Rattle.asm_core.specs.declared.finding.Rule.{Rule}
@@ -23,10 +22,10 @@ use Rattle.asm_core.specs.declared.statement.Body.{Body}
 use Rattle.asm_core.specs.declared.statement.Statement.{Statement}
 use Rattle.asm_core.specs.declared.interface.OperandIface.{OperandIface}
 use Rattle.asm_core.specs.declared.interface.Interface.{Interface}
-use Rattle.blk_check.specs.Judged.{IsInterfaceOf, IsVerdict}
+use Rattle.blk_check.specs.Judged.{IsInterfaceOf}
 use Rattle.blk_check.specs.declared.verdict.Verdict.{Verdict}
 use Rattle.blk_patch.specs.Items.{item_number, has, with_items}
-use Rattle.blk_patch.specs.Suggested.{clobber_of, output_in, early_of, or_item, overwriter_item, written_in, ties_to, is_in_out, may_be_read, plus_of, may_lose_high, byte_if, byte_in, byte_of, item_by, item_of}
+use Rattle.blk_patch.specs.Suggested.{clobber_of, output_in, early_of, or_item, overwriter_item, written_in, may_be_read, plus_of, may_lose_high, byte_in, byte_of, item_by, item_of}
 use Rattle.blk_patch.specs.Rounds.{unless_there, new_item, first_new, if_clobber, first_clobber, preferred, next_item, is_without_room, next_by, IsReached}
 use Rattle.blk_patch.specs.declared.item.Item.{Item}
 use Rattle.blk_patch.proofs.WithLaws.{with_long}
@@ -174,8 +173,8 @@ unless_new items None x e = cc
 unless_new items (Some y) x e = by (has items y) refl
   where
     by : (b : Bool) → has items y ≡ b → (Some y ≡ Some x) × (has items x ≡ false)
-    by true h = rw h at e in cc
-    by false h = let same : Some y ≡ Some x = (rw h at e in e) in (same, subst (λ z. has items z ≡ false) (some_is y x same) h)
+    by true h = let none : None ≡ Some x = rw h at e in cc
+    by false h = let same : Some y ≡ Some x = rw h at e in (same, subst (λ z. has items z ≡ false) (some_is y x same) h)
 
 only_clobbers : (o : Option Item) (x : Item) → if_clobber o ≡ Some x → o ≡ Some x
 only_clobbers None x e = cc
@@ -254,12 +253,16 @@ record AreNumbered (items : List Item) : Type 0 where
   distinct : IsDistinct eqb (numbers items)
   below : (q : ℕ) → list_any (eqb q) (numbers items) ≡ true → q < 99
 
+none_distinct : IsDistinct eqb []
+unfolding IsDistinct
+none_distinct = tt
+
 one_below : (q n : ℕ) → n < 99 → list_any (eqb q) (n ∷ []) ≡ true → q < 99
 one_below q n lt e = by (eqb q n) refl
   where
     by : (b : Bool) → eqb q n ≡ b → q < 99
     by true h = let same = eqb-true q n h in omega (arith, same, lt)
-    by false h = rw h at e in cc
+    by false h = let wrong : false ≡ true = rw h at e in cc
 
 one_more : (items : List Item) (x : Item) → AreNumbered items → IsNew items x → AreNumbered (items ++ x ∷ [])
 one_more items x are new =
@@ -272,7 +275,7 @@ one_more items x are new =
   where
     parts : (q : ℕ) (b : Bool) → list_any (eqb q) (numbers items) ≡ b → (list_any (eqb q) (numbers items) || list_any (eqb q) (item_number x ∷ [])) ≡ true → q < 99
     parts q true h e = are.below q h
-    parts q false h e = one_below q (item_number x) new.below (rw h at e in e)
+    parts q false h e = one_below q (item_number x) new.below (rw h at e)
 
 module _ (s : Statement) (i : Interface) (is : IsInterface i) (stated : IsInterfaceOf i s) where
   parts_few : HasFew s.body
@@ -287,10 +290,6 @@ module _ (s : Statement) (i : Interface) (is : IsInterface i) (stated : IsInterf
 
   numbered : (items : List Item) → IsReached s i items → AreNumbered items
   numbered items IsReached.begins = record { distinct = none_distinct; below = λ q e. cc }
-    where
-      none_distinct : IsDistinct eqb []
-      unfolding IsDistinct
-      none_distinct = tt
   numbered items (IsReached.adds before v x reached verdict next) =
       one_more before x (numbered before reached)
       (round_is s.body parts_few (with_items before i) (subst (λ n. n ≤ 30) (sym (with_long before i)) is.few) before v x next)

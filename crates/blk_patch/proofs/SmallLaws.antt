@@ -1,8 +1,8 @@
 -- Items leave memory small that is only written: they add no shape, and take none of the written operands' sizes.
-use Rattle.std.proofs.Common.{◌≡◌, ◌⊎◌, inl, inr, ℕ, zero, suc, ◌+◌, ◌<◌, ◌≤◌, ◌==◌, ◌&&◌, ◌||◌, not, List, [], ◌∷◌, ◌++◌, length, map, Bool, true, false, IsTrue, Option, None, Some, bit_and, slice_get, option_to_list, refl, sym, ap, subst, ◌∙◌, arith, tt, Unit, if◌then◌else◌}
+use Rattle.std.proofs.Common.{◌≡◌, ◌⊎◌, inl, inr, ℕ, suc, ◌+◌, ◌≤◌, ◌==◌, ◌&&◌, ◌||◌, not, List, [], ◌∷◌, ◌++◌, length, map, Bool, true, false, IsTrue, Option, None, Some, bit_and, slice_get, option_to_list, refl, sym, ap, subst, ◌∙◌, arith, if◌then◌else◌}
 use Rattle.std.specs.List.{list_any, flat_map}
 use Rattle.std.specs.Option.{option_map}
-use Rattle.std.proofs.lemmas.Bool.{and_parts, and_from, not-true, both_ways}
+use Rattle.std.proofs.lemmas.Bool.{and_parts, not-true, eqb-true}
 use Rattle.std.proofs.lemmas.Option.{slice_get-map}
 use Rattle.asm_core.specs.Lists.{count_from, IsMember}
 use Rattle.asm_core.specs.Placement.{is_output, is_input, tie_root}
@@ -14,7 +14,7 @@ use Rattle.asm_core.specs.declared.shape.Shape.{Shape}
 use Rattle.asm_core.specs.declared.interface.AltIface.{AltIface}
 use Rattle.asm_core.specs.declared.interface.OperandIface.{OperandIface}
 use Rattle.asm_core.specs.declared.interface.Interface.{Interface}
-use Rattle.blk_deps.specs.Operands.{IsSmall, in_memory, operand_has, size_at, is_input_at, numbers_in, is_root, has_address, has_tied, is_written_only}
+use Rattle.blk_deps.specs.Operands.{IsSmall, in_memory, operand_has, size_at, is_input_at, numbers_in, has_address, has_tied, is_written_only}
 use Rattle.blk_patch.specs.Items.{has, registers_with, alternative_with, operand_with, operands_with, with_items}
 use Rattle.blk_patch.specs.declared.item.Item.{Item}
 use Rattle.blk_patch.proofs.WithLaws.{operands_long, with_at, unread_before}
@@ -100,11 +100,12 @@ lists_within before (x ∷ xs) (y ∷ ys) fewer z m =
     flat_within (λ kind. kind_lists (before ++ kind ∷ []) xs) (λ kind. kind_lists (before ++ kind ∷ []) ys)
     (λ kind. lists_within (before ++ kind ∷ []) xs ys fewer.1) (kinds_after before x) (kinds_after before y) (kinds_within before x y fewer.0) z m
 
-if_within : (a b : Bool) (rest : List Kind) → (a ≡ true → b ≡ true) → IsWithin ((if a then Kind.Register ∷ [] else []) ++ rest) ((if b then Kind.Register ∷ [] else []) ++ rest)
-if_within false false rest up z m = m
-if_within false true rest up z m = inr m
-if_within true false rest up z m = let e : false ≡ true = up refl in cc
-if_within true true rest up z m = m
+if_within : (a b : Bool) (xs ys : List Kind) → (a ≡ true → b ≡ true)
+    → IsWithin ((if a then Kind.Register ∷ [] else []) ++ xs ++ ys) ((if b then Kind.Register ∷ [] else []) ++ xs ++ ys)
+if_within false false xs ys up z m = m
+if_within false true xs ys up z m = inr m
+if_within true false xs ys up z m = let e : false ≡ true = up refl in cc
+if_within true true xs ys up z m = m
 
 module _ (items : List Item) where
   some_registers : (k : ℕ) (pair : Bool) (regs : RegSet) → (pair || not ((registers_with items k regs).0 == 0)) ≡ true → (pair || not (regs.0 == 0)) ≡ true
@@ -113,18 +114,16 @@ module _ (items : List Item) where
     where
       none : (b : Bool) → (regs.0 == 0) ≡ b → not (bit_and regs.0 15 == 0) ≡ true → not (regs.0 == 0) ≡ true
       none false z h = rw z refl
-      none true z h = let zero_is : regs.0 ≡ 0 = omega (arith, z) in rw zero_is at h in absurd (by_false h)
-        where
-          by_false : not (bit_and 0 15 == 0) ≡ true → ⊥
-          by_false h = cc
+      none true z h = let zero_is : regs.0 ≡ 0 = eqb-true regs.0 0 z in let wrong : not (bit_and 0 15 == 0) ≡ true = rw zero_is at h in cc
+
       by : (b : Bool) → has items (Item.Byte k) ≡ b → not (regs.0 == 0) ≡ true
-      by true h = none (regs.0 == 0) refl (rw h at e in e)
-      by false h = rw h at e in e
+      by true h = none (regs.0 == 0) refl (rw h at e)
+      by false h = rw h at e
 
   fewer_with : (k : ℕ) (output : Bool) (alt : AltIface) → IsFewer (alternative_with items k output alt) alt
   fewer_with k output alt = record {
     tied = refl;
-    kinds = if_within _ _ _ (some_registers k alt.pair alt.regs);
+    kinds = if_within _ _ _ _ (some_registers k alt.pair alt.regs);
   }
 
   module _ (a : ℕ) where
@@ -136,6 +135,7 @@ module _ (items : List Item) where
       where
         f : AltIface → AltIface
         f = alternative_with items k (is_output o.role)
+
         by : (found : Option AltIface) → slice_get o.alts a ≡ found → AreFewer (allowed (operand_with items k o) ++ xs) (allowed o ++ ys)
         by None e = let e2 : slice_get (operand_with items k o).alts a ≡ None = slice_get-map (alternative_with items k (is_output o.role)) o.alts a ∙ ap (option_map (alternative_with items k (is_output o.role))) e in
             rw (e, e2) fewer
@@ -147,6 +147,21 @@ module _ (items : List Item) where
     all_fewer k [] = tt
     all_fewer k (o ∷ os) = one_fewer k o (flat_map allowed (operands_with items (k + 1) os)) (flat_map allowed os) (all_fewer (k + 1) os)
 
+-- ---- what stands at an operand
+
+module _ (w : Interface) (k : ℕ) where
+  input_there : (o : OperandIface) → slice_get w.operands k ≡ Some o → is_input_at w k ≡ is_input o.role
+  input_there o e = rw (e, is_input_at, operand_has) refl
+
+  input_nowhere : slice_get w.operands k ≡ None → is_input_at w k ≡ false
+  input_nowhere e = rw (e, is_input_at, operand_has) refl
+
+  size_there : (o : OperandIface) → slice_get w.operands k ≡ Some o → size_at w k ≡ o.size
+  size_there o e = rw (e, size_at) refl
+
+  size_nowhere : slice_get w.operands k ≡ None → size_at w k ≡ 0
+  size_nowhere e = rw (e, size_at) refl
+
 -- ---- shapes
 
 module _ (items : List Item) (i : Interface) where
@@ -154,11 +169,10 @@ module _ (items : List Item) (i : Interface) where
   patched = with_items items i
 
   alternatives_same : alternatives_of patched ≡ alternatives_of i
-  unfolding with_items
+  unfolding with_items operands_with
   alternatives_same = by i.operands refl
     where
       by : (os : List OperandIface) → i.operands ≡ os → alternatives_of patched ≡ alternatives_of i
-      unfolding with_items operands_with
       by [] e = rw e refl
       by (o ∷ os) e = rw e (count_same (operand_with items 0 o).alts o.alts 0 (length_mapped (alternative_with items 0 (is_output o.role)) o.alts))
         where
@@ -191,6 +205,7 @@ module _ (items : List Item) (i : Interface) where
             root_is patched s k (operand_with items k o) (Some (alternative_with items k (is_output o.role) alt)) (with_at items i k ∙ ap (option_map (operand_with items k)) e)
             (slice_get-map (alternative_with items k (is_output o.role)) o.alts s.alternative ∙ ap (option_map (alternative_with items k (is_output o.role))) f)
             ∙ sym (root_is i s k o (Some alt) e f)
+
         by : (found : Option OperandIface) → slice_get i.operands k ≡ found → tie_root patched s k ≡ tie_root i s k
         by None e = let e2 : slice_get patched.operands k ≡ None = with_at items i k ∙ ap (option_map (operand_with items k)) e in rw (e, e2) refl
         by (Some o) e = in_alternative o e (slice_get o.alts s.alternative) refl
@@ -209,17 +224,17 @@ module _ (items : List Item) (i : Interface) where
     input_before k h = by (slice_get i.operands k) refl
       where
         by : (found : Option OperandIface) → slice_get i.operands k ≡ found → is_input_at i k ≡ false
-        by None e = rw e refl
+        by None e = input_nowhere i k e
         by (Some o) e =
-            let e2 : slice_get patched.operands k ≡ Some (operand_with items k o) = with_at items i k ∙ ap (option_map (operand_with items k)) e in
-            rw e (unread_before items k o.role (rw e2 at h in h))
+            input_there i k o e
+            ∙ unread_before items k o.role (sym (input_there patched k (operand_with items k o) (with_at items i k ∙ ap (option_map (operand_with items k)) e)) ∙ h)
 
     size_same : (k : ℕ) → size_at patched k ≡ size_at i k
     size_same k = by (slice_get i.operands k) refl
       where
         by : (found : Option OperandIface) → slice_get i.operands k ≡ found → size_at patched k ≡ size_at i k
-        by None e = let e2 : slice_get patched.operands k ≡ None = with_at items i k ∙ ap (option_map (operand_with items k)) e in rw (e, e2) refl
-        by (Some o) e = let e2 : slice_get patched.operands k ≡ Some (operand_with items k o) = with_at items i k ∙ ap (option_map (operand_with items k)) e in rw (e, e2) refl
+        by None e = size_nowhere patched k (with_at items i k ∙ ap (option_map (operand_with items k)) e) ∙ sym (size_nowhere i k e)
+        by (Some o) e = size_there patched k (operand_with items k o) (with_at items i k ∙ ap (option_map (operand_with items k)) e) ∙ sym (size_there i k o e)
 
     address_same : (k : ℕ) → has_address patched s k ≡ has_address i s k
     address_same k = ap (λ root. in_memory s k && root == k) (root_same k)

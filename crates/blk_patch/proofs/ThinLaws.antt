@@ -1,9 +1,8 @@
 -- Items are dropped one after another: what is left of the rest is left of the whole.
-use Rattle.std.proofs.Common.{◌≡◌, ℕ, suc, ◌+◌, ◌<◌, ◌≤◌, List, [], ◌∷◌, ◌++◌, length, take, drop, get_or, Bool, true, false, Option, Some, slice_get, refl, sym, ap, subst, ◌∙◌, length-append, arith}
+use Rattle.std.proofs.Common.{◌≡◌, ℕ, suc, ◌+◌, ◌<◌, ◌≤◌, List, [], ◌∷◌, ◌++◌, length, take, drop, get_or, Bool, true, false, sym, ap, subst, ◌∙◌, length-append, arith}
 use Rattle.std.specs.List.{remove}
 use Rattle.std.proofs.Math.Seq.{take-append_seam, drop-append_seam}
 use Rattle.std.proofs.lemmas.List.{drop_all, drop_more, take_all, take_more, length-take-le}
-use Rattle.std.proofs.lemmas.Option.{slice_get_within, get_or_from_slice_get}
 use Rattle.asm_core.specs.declared.statement.Statement.{Statement}
 use Rattle.asm_core.specs.declared.interface.Interface.{Interface}
 use Rattle.blk_patch.specs.Items.{with_items}
@@ -24,28 +23,28 @@ module _ (s : Statement) (i : Interface) (whole : List Item) where
       (subst (λ rest. IsThinned s i (take at items) rest items) (sym (drop_all at items le))
       (subst (λ kept. IsThinned s i kept [] items) (sym (take_all at items le)) (IsThinned.done items)))
 
-  module _ (at : ℕ) (items : List Item) (x : Item) (here : slice_get items at ≡ Some x) where
-    inside : at < length items
-    inside = slice_get_within items at x here
+  module _ (at : ℕ) (items : List Item) (inside : at < length items) where
+    abbrev x : Item
+    x = get_or items at Item.Memory
 
     abbrev kept : List Item
     kept = take at items
 
     abbrev rest : List Item
-    rest = drop (at + 1) items
+    rest = drop (suc at) items
+
+    next : at + 1 ≡ suc at
+    next = omega arith
 
     split : drop at items ≡ x ∷ rest
-    split = drop_more items at x inside ∙ ap (λ y. y ∷ rest) (get_or_from_slice_get items at x x here)
-
-    longer : take (at + 1) items ≡ kept ++ x ∷ []
-    longer = take_more items at x inside ∙ ap (λ y. kept ++ y ∷ []) (get_or_from_slice_get items at x x here)
+    split = drop_more items at Item.Memory inside ∙ ap (λ n. x ∷ drop n items) next
 
     kept_long : length kept ≡ at
     kept_long = length-take-le at items (omega (arith, inside))
 
     pub thinning_drops : IsThinning s i whole at items → TellsOk s (with_items (remove items at) i) true → IsThinning s i whole at (remove items at)
     thinning_drops t told = record {
-      within = let long = length-append kept (drop (suc at) items) in let k = kept_long in omega (arith, long, k);
+      within = let long = length-append kept rest in let k = kept_long in omega (arith, long, k);
       finishes = λ left thinned. t.finishes left
           (subst (λ r. IsThinned s i kept r left) (sym split)
           (IsThinned.drops kept x rest left told.verdict told.is_verdict told.tells
@@ -55,9 +54,26 @@ module _ (s : Statement) (i : Interface) (whole : List Item) where
 
     pub thinning_keeps : IsThinning s i whole at items → TellsOk s (with_items (remove items at) i) false → IsThinning s i whole (at + 1) items
     thinning_keeps t told = record {
-      within = let lt = inside in omega (arith, lt);
+      within = omega (arith, inside);
       finishes = λ left thinned. t.finishes left
           (subst (λ r. IsThinned s i kept r left) (sym split)
           (IsThinned.keeps kept x rest left told.verdict told.is_verdict told.tells
-          (subst (λ k. IsThinned s i k rest left) longer thinned)));
+          (subst (λ k. IsThinned s i k rest left) (take_more items at Item.Memory inside)
+          (subst (λ n. IsThinned s i (take (at + 1) items) (drop n items) left) next thinned))));
     }
+
+  -- the items are handed on as slices
+  module _ (at : ℕ) (items given others handed : List Item) (accepted : Bool) (inside : at < length items) (same : given ≡ items) (is_others : others ≡ remove given at)
+      (same_too : handed ≡ others) (told : TellsOk s (with_items handed i) accepted) (so_far : IsThinning s i whole at items) where
+    others_are : others ≡ remove items at
+    others_are = is_others ∙ ap (λ l. remove l at) same
+
+    told_of_others : (b : Bool) → accepted ≡ b → TellsOk s (with_items (remove items at) i) b
+    told_of_others b e =
+        subst (λ l. TellsOk s (with_items l i) b) (same_too ∙ others_are) (subst (λ (x : Bool). TellsOk s (with_items handed i) x) e told)
+
+    pub drops_one : accepted ≡ true → IsThinning s i whole at others
+    drops_one e = subst (IsThinning s i whole at) (sym others_are) (thinning_drops at items inside so_far (told_of_others true e))
+
+    pub keeps_one : accepted ≡ false → IsThinning s i whole (at + 1) items
+    keeps_one e = thinning_keeps at items inside so_far (told_of_others false e)

@@ -1,5 +1,5 @@
 -- Where a verdict is that rules are broken, one is named.
-use Rattle.std.proofs.Common.{◌≡◌, ◌⊎◌, inl, inr, List, [], ◌∷◌, Option, None, Some, Result, Ok, Err, refl, tt}
+use Rattle.std.proofs.Common.{inl, inr, List, [], ◌∷◌, Option, None, Some, Result, Ok, Err}
 use Rattle.asm_core.specs.Shape.{shapes_of}
 use Rattle.asm_core.specs.declared.statement.Statement.{Statement}
 use Rattle.asm_core.specs.declared.interface.Interface.{Interface}

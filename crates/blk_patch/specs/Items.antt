@@ -1,5 +1,5 @@
 -- What a patch may add to a statement, and what the statement tells the compiler with it. This project's own.
-use Rattle.std.specs.Prelude.{ℕ, ◌+◌, ◌*◌, ◌^◌, ◌==◌, ◌&&◌, ◌||◌, bit_and, bit_or, fold, map, List, [], ◌∷◌, Bool, true, false, if◌then◌else◌}
+use Rattle.std.specs.Prelude.{ℕ, ◌+◌, ◌*◌, ◌^◌, ◌==◌, ◌&&◌, ◌||◌, bit_and, bit_or, fold, map, List, [], ◌∷◌, Bool, if◌then◌else◌}
 use Rattle.std.specs.List.{list_any}
 use Rattle.asm_core.specs.Reg.{reg_number}
 use Rattle.asm_core.specs.Placement.{is_output}

@@ -1,6 +1,6 @@
 -- How a statement is patched: items are added by the verdicts that the statement has with them, and those are left that it is accepted with and not
 -- without. This project's own.
-use Rattle.std.specs.Prelude.{◌≡◌, ◌&&◌, not, List, [], ◌∷◌, ◌++◌, Bool, true, false, Option, None, Some, find, is_none, if◌then◌else◌}
+use Rattle.std.specs.Prelude.{◌≡◌, ◌&&◌, List, [], ◌∷◌, ◌++◌, Bool, true, false, Option, None, Some, find, is_none, if◌then◌else◌}
 use Rattle.asm_core.specs.declared.finding.Rule.{Rule}
 use Rattle.asm_core.specs.declared.finding.Finding.{Finding}
 use Rattle.asm_core.specs.declared.statement.Body.{Body}

@@ -7,7 +7,6 @@ use Rattle.asm_core.specs.declared.finding.Rule.{Rule}
 use Rattle.asm_core.specs.declared.finding.Cell.{Cell}
 use Rattle.asm_core.specs.declared.finding.Finding.{Finding}
 use Rattle.asm_core.specs.declared.statement.Part.{Part}
-use Rattle.asm_core.specs.declared.statement.Parts.{Parts}
 use Rattle.asm_core.specs.declared.statement.Body.{Body}
 use Rattle.asm_core.specs.declared.interface.Role.{Role}
 use Rattle.asm_core.specs.declared.interface.AltIface.{AltIface}
@@ -69,18 +68,22 @@ plus_of i cell = None
 
 -- ---- byte names
 
--- A constraint's bytes but those between brackets, which name an output; `inside` says that a bracket is open.
-unfoldable pub letters_from : Bool → List ℕ → List ℕ
-letters_from inside [] = []
-letters_from true (b ∷ bs) = letters_from (not (is_close_bracket b)) bs
-letters_from false (b ∷ bs) = if b == 91 then letters_from true bs else b ∷ letters_from false bs
-
 -- `S`, `D` and `g`: it allows a register without byte names, and isn't `r`
 abbrev pub is_high_letter : ℕ → Bool
 is_high_letter b = b == 83 || (b == 68 || b == 103)
 
-unfoldable pub has_high_letter : List ℕ → Bool
-has_high_letter constraint = list_any is_high_letter (letters_from false constraint)
+-- a bracket is open behind the byte: what stands in brackets names an output
+abbrev pub is_inside_after : Bool → ℕ → Bool
+is_inside_after true b = not (is_close_bracket b)
+is_inside_after false b = b == 91
+
+-- such a letter stands outside brackets; `inside` says that one is open
+unfoldable pub has_high_from : Bool → List ℕ → Bool
+has_high_from inside [] = false
+has_high_from inside (b ∷ bs) = (not inside && is_high_letter b) || has_high_from (is_inside_after inside b) bs
+
+abbrev pub has_high_letter : List ℕ → Bool
+has_high_letter constraint = has_high_from false constraint
 
 abbrev pub may_lose_high : Option Part → Bool
 may_lose_high None = false

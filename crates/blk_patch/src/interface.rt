@@ -15,11 +15,7 @@ const LOW_REGISTERS: u8 = 15;
 
 /// What the statement tells the compiler with these items.
 #[tactic(auto, unfolding(crate::specs::Items::with_items))]
-pub fn with_items(
-    alloc: Global,
-    items: &[Item],
-    interface: &Interface,
-) -> Result<Interface, Memory>
+pub fn with_items(alloc: Global, items: &[Item], interface: &Interface) -> Result<Interface, Memory>
     requires { length interface.now.operands ≤ 30 }
     ensures { IfOk result (λ patched. patched ≡ with_items items.now interface.now) }
 {
@@ -31,7 +27,7 @@ pub fn with_items(
     })
 }
 
-#[tactic(auto, using(crate::proofs::InterfaceLaws::operands_done, crate::proofs::InterfaceLaws::operands_more))]
+#[tactic(auto, using(crate::proofs::InterfaceLaws::operands_begin, crate::proofs::InterfaceLaws::operands_more))]
 fn operands_with(
     alloc: Global,
     items: &[Item],

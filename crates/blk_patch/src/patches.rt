@@ -1,6 +1,6 @@
 //! The patch of a statement, or why there is none.
 
-ghost use Rattle.std.specs.Prelude.{◌≡◌, ◌≤◌, ◌∷◌, length, IfOk};
+ghost use Rattle.std.specs.Prelude.{◌≡◌, ◌≤◌, ◌∷◌, length, find, IfOk};
 ghost use Rattle.asm_core.specs.WellFormed.{IsInterface};
 ghost use Rattle.blk_check.specs.Judged.{IsInterfaceOf};
 ghost use Rattle.blk_patch.specs.Rounds.{IsPatch, IsReachedEnd, IsEnd, IsAcceptedEnd, IsRefusedEnd, AreSome, refusing, has_no_item, is_without_room};
@@ -29,7 +29,11 @@ pub enum PatchEnd {
 }
 
 /// Looks for a patch of the statement that has this interface.
-pub fn patch(alloc: Global, statement: &Statement, interface: &Interface) -> Result<PatchEnd, Memory>
+pub fn patch(
+    alloc: Global,
+    statement: &Statement,
+    interface: &Interface,
+) -> Result<PatchEnd, Memory>
     requires interface { IsInterface interface.now }
     requires stated { IsInterfaceOf interface.now statement.now }
     ensures { IfOk result (IsPatch statement.now interface.now) }
@@ -88,9 +92,28 @@ fn refusing(body: &Body, patched: &Interface, first: Finding, findings: &[Findin
     requires { length patched.now.operands ≤ 30 }
     ensures { result ≡ refusing body.now patched.now first findings.now }
 {
-    findings
-        .iter()
-        .find(|finding| item_of(body, patched, finding).is_none())
-        .copied()
-        .unwrap_or(first)
+    match first_itemless(body, patched, findings) {
+        Some(finding) => finding,
+        None => first,
+    }
+}
+
+#[tactic(auto, using(crate::proofs::FindingLaws::found_done))]
+fn first_itemless(body: &Body, patched: &Interface, findings: &[Finding]) -> Option<Finding>
+    requires { length patched.now.operands ≤ 30 }
+    ensures { result ≡ find (has_no_item body.now patched.now) findings.now }
+{
+    for finding in findings {
+        if has_no_item(body, patched, finding) {
+            return Some(*finding);
+        }
+    }
+    None
+}
+
+fn has_no_item(body: &Body, patched: &Interface, finding: &Finding) -> bool
+    requires { length patched.now.operands ≤ 30 }
+    ensures { result ≡ has_no_item body.now patched.now finding.now }
+{
+    item_of(body, patched, finding).is_none()
 }

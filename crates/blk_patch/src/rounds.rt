@@ -88,6 +88,7 @@ fn next_item(body: &Body, patched: &Interface, items: &[Item], findings: &[Findi
 }
 
 /// The item of the first finding that has a new one.
+#[tactic(auto, using(crate::proofs::FindingLaws::new_done))]
 fn first_new(body: &Body, patched: &Interface, items: &[Item], findings: &[Finding]) -> Option<Item>
     requires { length patched.now.operands ≤ 30 }
     ensures { result ≡ first_new body.now patched.now items.now findings.now }
@@ -102,6 +103,7 @@ fn first_new(body: &Body, patched: &Interface, items: &[Item], findings: &[Findi
 }
 
 /// The first new item that is a register's clobber.
+#[tactic(auto, using(crate::proofs::FindingLaws::clobber_done))]
 fn first_clobber(
     body: &Body,
     patched: &Interface,
@@ -112,12 +114,22 @@ fn first_clobber(
     ensures { result ≡ first_clobber body.now patched.now items.now findings.now }
 {
     for finding in findings {
-        let item = new_item(body, patched, items, finding);
-        if let Some(Item::Clobber(_)) = item {
+        let item = if_clobber(new_item(body, patched, items, finding));
+        if item.is_some() {
             return item;
         }
     }
     None
+}
+
+/// The item, where it is a register's clobber.
+fn if_clobber(item: Option<Item>) -> Option<Item>
+    ensures { result ≡ if_clobber item }
+{
+    match item {
+        Some(Item::Clobber(register)) => Some(Item::Clobber(register)),
+        _ => None,
+    }
 }
 
 /// The item of the finding, unless it is among these.

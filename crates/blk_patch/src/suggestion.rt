@@ -1,9 +1,10 @@
 //! The items that mend findings.
 
 ghost use Rattle.std.specs.Prelude.{◌≡◌, ◌≤◌, ◌+◌, ◌++◌, length, count_by, slice_get};
+ghost use Rattle.std.specs.List.{list_any};
 ghost use Rattle.std.specs.Option.{option_copied};
 ghost use Rattle.asm_core.specs.Placement.{is_output};
-ghost use Rattle.blk_patch.specs.Suggested.{clobber_of, early_of, overwriter_item, is_in_out, is_tie_to, ties_to, written_in, output_in, may_be_read, plus_of, may_lose_high, byte_in, byte_of, item_of};
+ghost use Rattle.blk_patch.specs.Suggested.{clobber_of, early_of, overwriter_item, or_item, is_in_out, is_tie_to, ties_to, written_in, output_in, may_be_read, plus_of, may_lose_high, byte_in, byte_of, item_of};
 
 use crate::Item;
 use crate::letters::has_high_letter;
@@ -42,9 +43,19 @@ fn clobber_of(cell: Cell) -> Option<Item>
 fn overwriter_item(interface: &Interface, place: Cell, overwritten: Cell) -> Option<Item>
     ensures { result ≡ overwriter_item interface.now place overwritten }
 {
-    clobber_of(place)
-        .or(clobber_of(overwritten))
-        .or(early_of(interface, place))
+    or_item(
+        or_item(clobber_of(place), clobber_of(overwritten)),
+        early_of(interface, place),
+    )
+}
+
+fn or_item(first: Option<Item>, second: Option<Item>) -> Option<Item>
+    ensures { result ≡ or_item first second }
+{
+    match first {
+        Some(item) => Some(item),
+        None => second,
+    }
 }
 
 fn early_of(interface: &Interface, cell: Cell) -> Option<Item>
@@ -57,7 +68,7 @@ fn early_of(interface: &Interface, cell: Cell) -> Option<Item>
 }
 
 fn is_output(operand: Option<&OperandIface>) -> bool
-    ensures { result ≡ output_in (option_copied operand) }
+    ensures { result ≡ output_in (option_copied operand.entry) }
 {
     match operand {
         Some(operand) => matches!(operand.role, Role::Out | Role::InOut),
@@ -81,12 +92,23 @@ fn may_be_read(interface: &Interface, k: u8) -> bool
     ensures { result ≡ may_be_read interface.now k }
 {
     is_written(interface.operands.get(k as usize))
-        && !interface.operands.as_slice().iter().any(|operand| ties_to(k, operand))
+        && !is_tied_to(interface, k)
         && operand_count(interface) < MOST_OPERANDS
 }
 
+/// Whether some operand is tied to operand k in some alternative.
+fn is_tied_to(interface: &Interface, k: u8) -> bool
+    ensures { result ≡ list_any (ties_to k) interface.now.operands }
+{
+    interface
+        .operands
+        .as_slice()
+        .iter()
+        .any(|operand| ties_to(k, operand))
+}
+
 fn is_written(operand: Option<&OperandIface>) -> bool
-    ensures { result ≡ written_in (option_copied operand) }
+    ensures { result ≡ written_in (option_copied operand.entry) }
 {
     match operand {
         Some(operand) => matches!(operand.role, Role::Out),
@@ -137,7 +159,9 @@ fn byte_of(body: &Body, cell: Cell) -> Option<Item>
     ensures { result ≡ byte_of body.now cell }
 {
     match (body, cell) {
-        (Body::Parts(parts), Cell::Operand(k)) if may_lose_high(part(parts, k as usize)) => Some(Item::Byte(k)),
+        (Body::Parts(parts), Cell::Operand(k)) if may_lose_high(part(parts, k as usize)) => Some(
+            Item::Byte(k),
+        ),
         _ => None,
     }
 }
@@ -156,7 +180,7 @@ fn part(parts: &Parts, k: usize) -> Option<&Part>
 
 /// Whether the operand's registers without byte names are those of the letter `r` alone.
 fn may_lose_high(part: Option<&Part>) -> bool
-    ensures { result ≡ may_lose_high (option_copied part) }
+    ensures { result ≡ may_lose_high (option_copied part.entry) }
 {
     match part {
         Some(part) => !has_high_letter(part.constraint.bytes.as_slice()),

@@ -1,8 +1,9 @@
 //! Which items of a patch can't be left out.
 
-ghost use Rattle.std.specs.Prelude.{◌≡◌, ◌<◌, [], length, remove, IfOk};
+ghost use Rattle.std.specs.Prelude.{◌≡◌, ◌<◌, [], length, IfOk};
+ghost use Rattle.std.specs.List.{remove};
 ghost use Rattle.asm_core.specs.WellFormed.{IsInterface};
-ghost use Rattle.blk_check.specs.Judged.{IsInterfaceOf, IsVerdict};
+ghost use Rattle.blk_check.specs.Judged.{IsInterfaceOf};
 ghost use Rattle.blk_patch.specs.Items.{with_items};
 ghost use Rattle.blk_patch.specs.Rounds.{IsThinned, TellsOk, is_ok};
 
@@ -25,15 +26,25 @@ pub fn thin(
 {
     let mut at = 0;
     'items: while at < items.len() {
-        let mut others = Items::from_slice(alloc, items.as_slice())?;
-        others.remove(at);
-        if is_accepted(alloc, statement, interface, others.as_slice())? {
+        let others = without(alloc, items.as_slice(), at)?;
+        let accepted = is_accepted(alloc, statement, interface, others.as_slice())?;
+        if accepted {
             items = others;
         } else {
             at += 1;
         }
     }
     Ok(items)
+}
+
+/// The items but the one of that number.
+fn without(alloc: Global, items: &[Item], at: usize) -> Result<Items<Item>, Memory>
+    requires { at < length items.now }
+    ensures { IfOk result (λ others. others ≡ remove items.now at) }
+{
+    let mut others = Items::from_slice(alloc, items)?;
+    others.remove(at);
+    Ok(others)
 }
 
 /// Whether the statement is accepted with these items.
@@ -49,5 +60,11 @@ fn is_accepted(
 {
     let patched = with_items(alloc, items, interface)?;
     let verdict = check(alloc, statement, &patched)?;
-    Ok(matches!(verdict, Verdict::Ok(_)))
+    Ok(is_ok(&verdict))
+}
+
+fn is_ok(verdict: &Verdict) -> bool
+    ensures { result ≡ is_ok verdict.now }
+{
+    matches!(verdict, Verdict::Ok(_))
 }
