@@ -27,7 +27,8 @@ module _ {A : Type 0} (p : A → Bool) where
 
 module _ (body : Body) (w : Interface) (items : List Item) (fs : List Finding) (k : ℕ) where
   pub new_more : (f : Finding) → k < length fs
-      → first_new body w items (drop k fs) ≡ or_item (new_item body w items (get_or fs k f)) (first_new body w items (drop (k + 1) fs))
+      → first_new body w items (drop k fs) ≡ or_item (new_item body w items (get_or fs k f))
+          (first_new body w items (drop (k + 1) fs))
   unfolding first_new
   new_more f lt = ap (first_new body w items) (drop_more fs k f lt)
 
@@ -36,7 +37,8 @@ module _ (body : Body) (w : Interface) (items : List Item) (fs : List Finding) (
   new_done le = ap (first_new body w items) (drop_all k fs le)
 
   pub clobber_more : (f : Finding) → k < length fs
-      → first_clobber body w items (drop k fs) ≡ or_item (if_clobber (new_item body w items (get_or fs k f))) (first_clobber body w items (drop (k + 1) fs))
+      → first_clobber body w items (drop k fs) ≡ or_item (if_clobber (new_item body w items (get_or fs k f)))
+          (first_clobber body w items (drop (k + 1) fs))
   unfolding first_clobber
   clobber_more f lt = ap (first_clobber body w items) (drop_more fs k f lt)
 
@@ -46,23 +48,29 @@ module _ (body : Body) (w : Interface) (items : List Item) (fs : List Finding) (
 
   module _ (f : Finding) (lt : k < length fs) where
     pub new_here : first_new body w items (drop k fs) ≡ first_new body w items fs
-        → (item : Option Item) → item ≡ new_item body w items (get_or fs k f) → is_some item ≡ true → item ≡ first_new body w items fs
+        → (item : Option Item) → item ≡ new_item body w items (get_or fs k f) → is_some item ≡ true
+            → item ≡ first_new body w items fs
     new_here so_far None is some = cc
-    new_here so_far (Some x) is some = sym (sym so_far ∙ new_more f lt ∙ ap (λ o. or_item o (first_new body w items (drop (k + 1) fs))) (sym is))
+    new_here so_far (Some x) is some = sym (sym so_far ∙ new_more f lt ∙ ap
+        (λ o. or_item o (first_new body w items (drop (k + 1) fs))) (sym is))
 
     pub new_next : first_new body w items (drop k fs) ≡ first_new body w items fs
         → (item : Option Item) → item ≡ new_item body w items (get_or fs k f) → is_some item ≡ false
         → first_new body w items (drop (k + 1) fs) ≡ first_new body w items fs
-    new_next so_far None is none = sym (new_more f lt ∙ ap (λ o. or_item o (first_new body w items (drop (k + 1) fs))) (sym is)) ∙ so_far
+    new_next so_far None is none = sym (new_more f lt ∙ ap (λ o. or_item o (first_new body w items (drop (k + 1) fs)))
+        (sym is)) ∙ so_far
     new_next so_far (Some x) is none = cc
 
     pub clobber_here : first_clobber body w items (drop k fs) ≡ first_clobber body w items fs
-        → (item : Option Item) → item ≡ if_clobber (new_item body w items (get_or fs k f)) → is_some item ≡ true → item ≡ first_clobber body w items fs
+        → (item : Option Item) → item ≡ if_clobber (new_item body w items (get_or fs k f)) → is_some item ≡ true
+            → item ≡ first_clobber body w items fs
     clobber_here so_far None is some = cc
-    clobber_here so_far (Some x) is some = sym (sym so_far ∙ clobber_more f lt ∙ ap (λ o. or_item o (first_clobber body w items (drop (k + 1) fs))) (sym is))
+    clobber_here so_far (Some x) is some = sym (sym so_far ∙ clobber_more f lt ∙ ap
+        (λ o. or_item o (first_clobber body w items (drop (k + 1) fs))) (sym is))
 
     pub clobber_next : first_clobber body w items (drop k fs) ≡ first_clobber body w items fs
         → (item : Option Item) → item ≡ if_clobber (new_item body w items (get_or fs k f)) → is_some item ≡ false
         → first_clobber body w items (drop (k + 1) fs) ≡ first_clobber body w items fs
-    clobber_next so_far None is none = sym (clobber_more f lt ∙ ap (λ o. or_item o (first_clobber body w items (drop (k + 1) fs))) (sym is)) ∙ so_far
+    clobber_next so_far None is none = sym (clobber_more f lt ∙ ap
+        (λ o. or_item o (first_clobber body w items (drop (k + 1) fs))) (sym is)) ∙ so_far
     clobber_next so_far (Some x) is none = cc

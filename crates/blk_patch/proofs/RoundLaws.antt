@@ -111,7 +111,8 @@ module _ (w : Interface) (few : length w.operands ≤ 30) where
 
   overwriter_below : (d u : Cell) (x : Item) → overwriter_item w d u ≡ Some x → IsBelow x
   overwriter_below d u x e = elim (either (or_item (clobber_of d) (clobber_of u)) (early_of w d) x e) [
-    | inl clobber ↦ elim (either (clobber_of d) (clobber_of u) x clobber) [ inl a ↦ clobber_below d x a | inr b ↦ clobber_below u x b ]
+    | inl clobber ↦ elim
+        (either (clobber_of d) (clobber_of u) x clobber) [ inl a ↦ clobber_below d x a | inr b ↦ clobber_below u x b ]
     | inr early ↦ early_below d x early
   ]
 
@@ -168,7 +169,8 @@ record IsNew (items : List Item) (x : Item) : Type 0 where
   fresh : has items x ≡ false
   below : IsBelow x
 
-unless_new : (items : List Item) (o : Option Item) (x : Item) → unless_there items o ≡ Some x → (o ≡ Some x) × (has items x ≡ false)
+unless_new : (items : List Item) (o : Option Item) (x : Item) → unless_there items o ≡ Some x
+    → (o ≡ Some x) × (has items x ≡ false)
 unless_new items None x e = cc
 unless_new items (Some y) x e = by (has items y) refl
   where
@@ -203,7 +205,8 @@ module _ (body : Body) (few : HasFew body) (w : Interface) (small : length w.ope
   first_is : (fs : List Finding) (x : Item) → first_new body w items fs ≡ Some x → IsNew items x
   unfolding first_new
   first_is [] x e = cc
-  first_is (f ∷ fs) x e = elim (either (new_item body w items f) (first_new body w items fs) x e) [ inl a ↦ new_is f x a | inr b ↦ first_is fs x b ]
+  first_is (f ∷ fs) x e = elim (either (new_item body w items f)
+      (first_new body w items fs) x e) [ inl a ↦ new_is f x a | inr b ↦ first_is fs x b ]
 
   clobber_is : (fs : List Finding) (x : Item) → first_clobber body w items fs ≡ Some x → IsNew items x
   unfolding first_clobber
@@ -214,7 +217,8 @@ module _ (body : Body) (few : HasFew body) (w : Interface) (small : length w.ope
   ]
 
   next_is : (fs : List Finding) (x : Item) → next_item body w items fs ≡ Some x → IsNew items x
-  next_is fs x e = elim (one_of_both (first_new body w items fs) (first_clobber body w items fs) x e) [ inl a ↦ first_is fs x a | inr b ↦ clobber_is fs x b ]
+  next_is fs x e = elim (one_of_both (first_new body w items fs)
+      (first_clobber body w items fs) x e) [ inl a ↦ first_is fs x a | inr b ↦ clobber_is fs x b ]
 
   unless_full : (b : Bool) (o : Option Item) (x : Item) → (if b then None else o) ≡ Some x → o ≡ Some x
   unless_full true o x e = cc
@@ -222,7 +226,8 @@ module _ (body : Body) (few : HasFew body) (w : Interface) (small : length w.ope
 
   round_is : (v : Verdict) (x : Item) → next_by body w items v ≡ Some x → IsNew items x
   round_is (Verdict.Ok proof) x e = cc
-  round_is (Verdict.Broken fs) x e = next_is fs x (unless_full (is_without_room items fs) (next_item body w items fs) x e)
+  round_is (Verdict.Broken fs) x e = next_is fs x (unless_full (is_without_room items fs)
+      (next_item body w items fs) x e)
   round_is (Verdict.Outside mark) x e = cc
 
 -- ---- all of them
@@ -266,14 +271,17 @@ one_below q n lt e = by (eqb q n) refl
 
 one_more : (items : List Item) (x : Item) → AreNumbered items → IsNew items x → AreNumbered (items ++ x ∷ [])
 one_more items x are new =
-    let whole : numbers (items ++ x ∷ []) ≡ numbers items ++ item_number x ∷ [] = map-append item_number items (x ∷ []) in
+    let whole : numbers (items ++ x ∷ []) ≡ numbers items ++ item_number x ∷ [] = map-append item_number items
+        (x ∷ []) in
     record {
-      distinct = subst (IsDistinct eqb) (sym whole) (IsDistinct-push numbers_equal (numbers items) (item_number x) are.distinct (is_there items x ∙ new.fresh));
+      distinct = subst (IsDistinct eqb) (sym whole) (IsDistinct-push numbers_equal (numbers items)
+          (item_number x) are.distinct (is_there items x ∙ new.fresh));
       below = λ q e. parts q (list_any (eqb q) (numbers items)) refl
           (sym (list_any-append (eqb q) (numbers items) (item_number x ∷ [])) ∙ sym (ap (list_any (eqb q)) whole) ∙ e);
     }
   where
-    parts : (q : ℕ) (b : Bool) → list_any (eqb q) (numbers items) ≡ b → (list_any (eqb q) (numbers items) || list_any (eqb q) (item_number x ∷ [])) ≡ true → q < 99
+    parts : (q : ℕ) (b : Bool) → list_any (eqb q) (numbers items) ≡ b
+        → (list_any (eqb q) (numbers items) || list_any (eqb q) (item_number x ∷ [])) ≡ true → q < 99
     parts q true h e = are.below q h
     parts q false h e = one_below q (item_number x) new.below (rw h at e)
 
@@ -292,15 +300,18 @@ module _ (s : Statement) (i : Interface) (is : IsInterface i) (stated : IsInterf
   numbered items IsReached.begins = record { distinct = none_distinct; below = λ q e. cc }
   numbered items (IsReached.adds before v x reached verdict next) =
       one_more before x (numbered before reached)
-      (round_is s.body parts_few (with_items before i) (subst (λ n. n ≤ 30) (sym (with_long before i)) is.few) before v x next)
+      (round_is s.body parts_few (with_items before i) (subst (λ n. n ≤ 30)
+          (sym (with_long before i)) is.few) before v x next)
 
   pub reached_few : (items : List Item) → IsReached s i items → length items ≤ 99
   reached_few items reached =
       let are = numbered items reached in
-      subst (λ n. n ≤ 99) (length-map items item_number) (length-le_from_distinct_below (numbers items) 99 are.distinct are.below)
+      subst (λ n. n ≤ 99) (length-map items item_number) (length-le_from_distinct_below
+          (numbers items) 99 are.distinct are.below)
 
   -- with one item more there are fewer left
-  pub fewer_left : (items : List Item) (x : Item) → IsReached s i (items ++ x ∷ []) → 99 - length (items ++ x ∷ []) < 99 - length items
+  pub fewer_left : (items : List Item) (x : Item) → IsReached s i (items ++ x ∷ [])
+      → 99 - length (items ++ x ∷ []) < 99 - length items
   fewer_left items x reached =
       let few = reached_few (items ++ x ∷ []) reached in
       let long = length-append items (x ∷ []) in

@@ -41,12 +41,14 @@ module _ {A : Type 0} where
   parted (z ∷ xs) ys x (inr m) = elim (parted xs ys x m) [ inl a ↦ inl (inr a) | inr b ↦ inr b ]
 
 module _ {A B : Type 0} where
-  into_flat : (f : A → List B) (xs : List A) (x : A) (z : B) → IsMember x xs → IsMember z (f x) → IsMember z (flat_map f xs)
+  into_flat : (f : A → List B) (xs : List A) (x : A) (z : B) → IsMember x xs → IsMember z (f x)
+      → IsMember z (flat_map f xs)
   into_flat f [] x z m h = absurd m
   into_flat f (y ∷ xs) x z (inl e) h = in_front (f y) (flat_map f xs) z (subst (λ a. IsMember z (f a)) e h)
   into_flat f (y ∷ xs) x z (inr m) h = in_back (f y) (flat_map f xs) z (into_flat f xs x z m h)
 
-  flat_within : (f g : A → List B) → ((x : A) → IsWithin (f x) (g x)) → (xs ys : List A) → IsWithin xs ys → IsWithin (flat_map f xs) (flat_map g ys)
+  flat_within : (f g : A → List B) → ((x : A) → IsWithin (f x) (g x)) → (xs ys : List A) → IsWithin xs ys
+      → IsWithin (flat_map f xs) (flat_map g ys)
   flat_within f g each [] ys within z m = absurd m
   flat_within f g each (x ∷ xs) ys within z m = elim (parted (f x) (flat_map f xs) z m) [
     | inl here ↦ into_flat g ys x z (within x (inl refl)) (each x z here)
@@ -85,20 +87,23 @@ AreFewer [] [] = Unit {0}
 AreFewer (x ∷ xs) (y ∷ ys) = IsFewer x y × AreFewer xs ys
 AreFewer xs ys = ⊥
 
-kinds_within : (before : List Kind) (x y : AltIface) → IsFewer x y → IsWithin (kinds_after before x) (kinds_after before y)
+kinds_within : (before : List Kind) (x y : AltIface) → IsFewer x y
+    → IsWithin (kinds_after before x) (kinds_after before y)
 kinds_within before x y fewer = by x.tied refl
   where
     by : (t : Option ℕ) → x.tied ≡ t → IsWithin (kinds_after before x) (kinds_after before y)
     by None e = let e2 : y.tied ≡ None = sym fewer.tied ∙ e in rw (e, e2) fewer.kinds
     by (Some k) e = let e2 : y.tied ≡ Some k = sym fewer.tied ∙ e in rw (e, e2) (λ z m. m)
 
-lists_within : (before : List Kind) (xs ys : List AltIface) → AreFewer xs ys → IsWithin (kind_lists before xs) (kind_lists before ys)
+lists_within : (before : List Kind) (xs ys : List AltIface) → AreFewer xs ys
+    → IsWithin (kind_lists before xs) (kind_lists before ys)
 lists_within before [] [] fewer z m = m
 lists_within before [] (y ∷ ys) fewer z m = absurd fewer
 lists_within before (x ∷ xs) [] fewer z m = absurd fewer
 lists_within before (x ∷ xs) (y ∷ ys) fewer z m =
     flat_within (λ kind. kind_lists (before ++ kind ∷ []) xs) (λ kind. kind_lists (before ++ kind ∷ []) ys)
-    (λ kind. lists_within (before ++ kind ∷ []) xs ys fewer.1) (kinds_after before x) (kinds_after before y) (kinds_within before x y fewer.0) z m
+    (λ kind. lists_within (before ++ kind ∷ []) xs ys fewer.1) (kinds_after before x) (kinds_after before y)
+        (kinds_within before x y fewer.0) z m
 
 if_within : (a b : Bool) (xs ys : List Kind) → (a ≡ true → b ≡ true)
     → IsWithin ((if a then Kind.Register ∷ [] else []) ++ xs ++ ys) ((if b then Kind.Register ∷ [] else []) ++ xs ++ ys)
@@ -108,13 +113,15 @@ if_within true false xs ys up z m = let e : false ≡ true = up refl in cc
 if_within true true xs ys up z m = m
 
 module _ (items : List Item) where
-  some_registers : (k : ℕ) (pair : Bool) (regs : RegSet) → (pair || not ((registers_with items k regs).0 == 0)) ≡ true → (pair || not (regs.0 == 0)) ≡ true
+  some_registers : (k : ℕ) (pair : Bool) (regs : RegSet) → (pair || not ((registers_with items k regs).0 == 0)) ≡ true
+      → (pair || not (regs.0 == 0)) ≡ true
   some_registers k true regs e = refl
   some_registers k false regs e = by (has items (Item.Byte k)) refl
     where
       none : (b : Bool) → (regs.0 == 0) ≡ b → not (bit_and regs.0 15 == 0) ≡ true → not (regs.0 == 0) ≡ true
       none false z h = rw z refl
-      none true z h = let zero_is : regs.0 ≡ 0 = eqb-true regs.0 0 z in let wrong : not (bit_and 0 15 == 0) ≡ true = rw zero_is at h in cc
+      none true z h = let zero_is : regs.0 ≡ 0 = eqb-true regs.0 0 z in let wrong : not
+          (bit_and 0 15 == 0) ≡ true = rw zero_is at h in cc
 
       by : (b : Bool) → has items (Item.Byte k) ≡ b → not (regs.0 == 0) ≡ true
       by true h = none (regs.0 == 0) refl (rw h at e)
@@ -130,22 +137,31 @@ module _ (items : List Item) where
     abbrev allowed : OperandIface → List AltIface
     allowed o = option_to_list (slice_get o.alts a)
 
-    one_fewer : (k : ℕ) (o : OperandIface) (xs ys : List AltIface) → AreFewer xs ys → AreFewer (allowed (operand_with items k o) ++ xs) (allowed o ++ ys)
+    one_fewer : (k : ℕ) (o : OperandIface) (xs ys : List AltIface) → AreFewer xs ys
+        → AreFewer (allowed (operand_with items k o) ++ xs) (allowed o ++ ys)
     one_fewer k o xs ys fewer = by (slice_get o.alts a) refl
       where
         f : AltIface → AltIface
         f = alternative_with items k (is_output o.role)
 
-        by : (found : Option AltIface) → slice_get o.alts a ≡ found → AreFewer (allowed (operand_with items k o) ++ xs) (allowed o ++ ys)
-        by None e = let e2 : slice_get (operand_with items k o).alts a ≡ None = slice_get-map (alternative_with items k (is_output o.role)) o.alts a ∙ ap (option_map (alternative_with items k (is_output o.role))) e in
+        by : (found : Option AltIface) → slice_get o.alts a ≡ found
+            → AreFewer (allowed (operand_with items k o) ++ xs) (allowed o ++ ys)
+        by None e = let e2 : slice_get (operand_with items k o).alts a ≡ None = slice_get-map
+            (alternative_with items k (is_output o.role)) o.alts a ∙ ap
+            (option_map (alternative_with items k (is_output o.role))) e in
             rw (e, e2) fewer
-        by (Some alt) e = let e2 : slice_get (operand_with items k o).alts a ≡ Some (alternative_with items k (is_output o.role) alt) = slice_get-map (alternative_with items k (is_output o.role)) o.alts a ∙ ap (option_map (alternative_with items k (is_output o.role))) e in
+        by (Some alt) e = let e2 : slice_get (operand_with items k o).alts a ≡ Some
+            (alternative_with items k (is_output o.role) alt) = slice_get-map
+            (alternative_with items k (is_output o.role)) o.alts a ∙ ap
+            (option_map (alternative_with items k (is_output o.role))) e in
             rw (e, e2) (fewer_with k (is_output o.role) alt, fewer)
 
-    all_fewer : (k : ℕ) (os : List OperandIface) → AreFewer (flat_map allowed (operands_with items k os)) (flat_map allowed os)
+    all_fewer : (k : ℕ) (os : List OperandIface) → AreFewer (flat_map allowed (operands_with items k os))
+        (flat_map allowed os)
     unfolding operands_with
     all_fewer k [] = tt
-    all_fewer k (o ∷ os) = one_fewer k o (flat_map allowed (operands_with items (k + 1) os)) (flat_map allowed os) (all_fewer (k + 1) os)
+    all_fewer k (o ∷ os) = one_fewer k o (flat_map allowed (operands_with items (k + 1) os)) (flat_map allowed os)
+        (all_fewer (k + 1) os)
 
 -- ---- what stands at an operand
 
@@ -174,7 +190,8 @@ module _ (items : List Item) (i : Interface) where
     where
       by : (os : List OperandIface) → i.operands ≡ os → alternatives_of patched ≡ alternatives_of i
       by [] e = rw e refl
-      by (o ∷ os) e = rw e (count_same (operand_with items 0 o).alts o.alts 0 (length_mapped (alternative_with items 0 (is_output o.role)) o.alts))
+      by (o ∷ os) e = rw e (count_same (operand_with items 0 o).alts o.alts 0
+          (length_mapped (alternative_with items 0 (is_output o.role)) o.alts))
         where
           length_mapped : (f : AltIface → AltIface) (xs : List AltIface) → length (map f xs) ≡ length xs
           length_mapped f [] = refl
@@ -183,9 +200,11 @@ module _ (items : List Item) (i : Interface) where
   pub shapes_before : IsWithin (shapes_of patched) (shapes_of i)
   unfolding with_items
   shapes_before =
-      flat_within (λ a. map (λ kinds. record { alternative = a; kinds = kinds }) (kind_lists [] (alternative_of patched a)))
+      flat_within (λ a. map (λ kinds. record { alternative = a; kinds = kinds })
+          (kind_lists [] (alternative_of patched a)))
       (λ a. map (λ kinds. record { alternative = a; kinds = kinds }) (kind_lists [] (alternative_of i a)))
-      (λ a. map_within (λ kinds. record { alternative = a; kinds = kinds }) (kind_lists [] (alternative_of patched a)) (kind_lists [] (alternative_of i a))
+      (λ a. map_within (λ kinds. record { alternative = a; kinds = kinds }) (kind_lists [] (alternative_of patched a))
+          (kind_lists [] (alternative_of i a))
       (lists_within [] (alternative_of patched a) (alternative_of i a) (all_fewer items a 0 i.operands)))
       (alternatives_of patched) (alternatives_of i)
       (subst (λ l. IsWithin l (alternatives_of i)) (sym alternatives_same) (λ x m. m))
@@ -196,18 +215,24 @@ module _ (items : List Item) (i : Interface) where
     pub root_same : (k : ℕ) → tie_root patched s k ≡ tie_root i s k
     root_same k = by (slice_get i.operands k) refl
       where
-        in_alternative : (o : OperandIface) → slice_get i.operands k ≡ Some o → (found : Option AltIface) → slice_get o.alts s.alternative ≡ found → tie_root patched s k ≡ tie_root i s k
+        in_alternative : (o : OperandIface) → slice_get i.operands k ≡ Some o → (found : Option AltIface)
+            → slice_get o.alts s.alternative ≡ found → tie_root patched s k ≡ tie_root i s k
         in_alternative o e None f =
-            root_is patched s k (operand_with items k o) None (with_at items i k ∙ ap (option_map (operand_with items k)) e)
-            (slice_get-map (alternative_with items k (is_output o.role)) o.alts s.alternative ∙ ap (option_map (alternative_with items k (is_output o.role))) f)
+            root_is patched s k (operand_with items k o) None
+                (with_at items i k ∙ ap (option_map (operand_with items k)) e)
+            (slice_get-map (alternative_with items k (is_output o.role)) o.alts s.alternative ∙ ap
+                (option_map (alternative_with items k (is_output o.role))) f)
             ∙ sym (root_is i s k o None e f)
         in_alternative o e (Some alt) f =
-            root_is patched s k (operand_with items k o) (Some (alternative_with items k (is_output o.role) alt)) (with_at items i k ∙ ap (option_map (operand_with items k)) e)
-            (slice_get-map (alternative_with items k (is_output o.role)) o.alts s.alternative ∙ ap (option_map (alternative_with items k (is_output o.role))) f)
+            root_is patched s k (operand_with items k o) (Some (alternative_with items k (is_output o.role) alt))
+                (with_at items i k ∙ ap (option_map (operand_with items k)) e)
+            (slice_get-map (alternative_with items k (is_output o.role)) o.alts s.alternative ∙ ap
+                (option_map (alternative_with items k (is_output o.role))) f)
             ∙ sym (root_is i s k o (Some alt) e f)
 
         by : (found : Option OperandIface) → slice_get i.operands k ≡ found → tie_root patched s k ≡ tie_root i s k
-        by None e = let e2 : slice_get patched.operands k ≡ None = with_at items i k ∙ ap (option_map (operand_with items k)) e in rw (e, e2) refl
+        by None e = let e2 : slice_get patched.operands k ≡ None = with_at items i k ∙ ap
+            (option_map (operand_with items k)) e in rw (e, e2) refl
         by (Some o) e = in_alternative o e (slice_get o.alts s.alternative) refl
 
     numbers_same : numbers_in patched ≡ numbers_in i
@@ -227,14 +252,17 @@ module _ (items : List Item) (i : Interface) where
         by None e = input_nowhere i k e
         by (Some o) e =
             input_there i k o e
-            ∙ unread_before items k o.role (sym (input_there patched k (operand_with items k o) (with_at items i k ∙ ap (option_map (operand_with items k)) e)) ∙ h)
+            ∙ unread_before items k o.role (sym (input_there patched k (operand_with items k o)
+                (with_at items i k ∙ ap (option_map (operand_with items k)) e)) ∙ h)
 
     size_same : (k : ℕ) → size_at patched k ≡ size_at i k
     size_same k = by (slice_get i.operands k) refl
       where
         by : (found : Option OperandIface) → slice_get i.operands k ≡ found → size_at patched k ≡ size_at i k
-        by None e = size_nowhere patched k (with_at items i k ∙ ap (option_map (operand_with items k)) e) ∙ sym (size_nowhere i k e)
-        by (Some o) e = size_there patched k (operand_with items k o) (with_at items i k ∙ ap (option_map (operand_with items k)) e) ∙ sym (size_there i k o e)
+        by None e = size_nowhere patched k (with_at items i k ∙ ap (option_map (operand_with items k)) e) ∙ sym
+            (size_nowhere i k e)
+        by (Some o) e = size_there patched k (operand_with items k o)
+            (with_at items i k ∙ ap (option_map (operand_with items k)) e) ∙ sym (size_there i k o e)
 
     address_same : (k : ℕ) → has_address patched s k ≡ has_address i s k
     address_same k = ap (λ root. in_memory s k && root == k) (root_same k)
@@ -246,7 +274,8 @@ module _ (items : List Item) (i : Interface) where
         let tied = sym (tied_same k) ∙ not-true (has_tied patched s k) parts.1 in
         rw (input, tied) refl
 
-    both_before : (k : ℕ) → IsTrue (has_address patched s k && is_written_only patched s k) → IsTrue (has_address i s k && is_written_only i s k)
+    both_before : (k : ℕ) → IsTrue (has_address patched s k && is_written_only patched s k)
+        → IsTrue (has_address i s k && is_written_only i s k)
     both_before k h =
         let parts = and_parts (has_address patched s k) (is_written_only patched s k) h in
         let address = sym (address_same k) ∙ parts.0 in
@@ -255,5 +284,6 @@ module _ (items : List Item) (i : Interface) where
 
   pub is_small : IsSmall i → IsSmall patched
   is_small small = record {
-    each = λ s k member h. subst (λ n. n ≤ 64) (sym (size_same s k)) (small.each s k (shapes_before s member) (both_before s k h));
+    each = λ s k member h. subst (λ n. n ≤ 64) (sym (size_same s k))
+        (small.each s k (shapes_before s member) (both_before s k h));
   }

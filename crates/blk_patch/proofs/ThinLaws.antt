@@ -18,7 +18,8 @@ module _ (s : Statement) (i : Interface) (whole : List Item) where
   pub thinning_begins : IsThinning s i whole 0 whole
   thinning_begins = record { within = omega arith; finishes = λ left thinned. thinned }
 
-  pub thinning_ends : (at : ℕ) (items : List Item) → IsThinning s i whole at items → length items ≤ at → IsThinned s i [] whole items
+  pub thinning_ends : (at : ℕ) (items : List Item) → IsThinning s i whole at items → length items ≤ at
+      → IsThinned s i [] whole items
   thinning_ends at items t le = t.finishes items
       (subst (λ rest. IsThinned s i (take at items) rest items) (sym (drop_all at items le))
       (subst (λ kept. IsThinned s i kept [] items) (sym (take_all at items le)) (IsThinned.done items)))
@@ -42,17 +43,21 @@ module _ (s : Statement) (i : Interface) (whole : List Item) where
     kept_long : length kept ≡ at
     kept_long = length-take-le at items (omega (arith, inside))
 
-    pub thinning_drops : IsThinning s i whole at items → TellsOk s (with_items (remove items at) i) true → IsThinning s i whole at (remove items at)
+    pub thinning_drops : IsThinning s i whole at items → TellsOk s (with_items (remove items at) i) true
+        → IsThinning s i whole at (remove items at)
     thinning_drops t told = record {
       within = let long = length-append kept rest in let k = kept_long in omega (arith, long, k);
       finishes = λ left thinned. t.finishes left
           (subst (λ r. IsThinned s i kept r left) (sym split)
           (IsThinned.drops kept x rest left told.verdict told.is_verdict told.tells
-          (subst (λ k. IsThinned s i k rest left) (subst (λ n. take n (kept ++ rest) ≡ kept) kept_long (take-append_seam kept rest))
-          (subst (λ r. IsThinned s i (take at (kept ++ rest)) r left) (subst (λ n. drop n (kept ++ rest) ≡ rest) kept_long (drop-append_seam kept rest)) thinned))));
+          (subst (λ k. IsThinned s i k rest left) (subst (λ n. take n (kept ++ rest) ≡ kept) kept_long
+              (take-append_seam kept rest))
+          (subst (λ r. IsThinned s i (take at (kept ++ rest)) r left)
+              (subst (λ n. drop n (kept ++ rest) ≡ rest) kept_long (drop-append_seam kept rest)) thinned))));
     }
 
-    pub thinning_keeps : IsThinning s i whole at items → TellsOk s (with_items (remove items at) i) false → IsThinning s i whole (at + 1) items
+    pub thinning_keeps : IsThinning s i whole at items → TellsOk s (with_items (remove items at) i) false
+        → IsThinning s i whole (at + 1) items
     thinning_keeps t told = record {
       within = omega (arith, inside);
       finishes = λ left thinned. t.finishes left
@@ -63,17 +68,21 @@ module _ (s : Statement) (i : Interface) (whole : List Item) where
     }
 
   -- the items are handed on as slices
-  module _ (at : ℕ) (items given others handed : List Item) (accepted : Bool) (inside : at < length items) (same : given ≡ items) (is_others : others ≡ remove given at)
-      (same_too : handed ≡ others) (told : TellsOk s (with_items handed i) accepted) (so_far : IsThinning s i whole at items) where
+  module _ (at : ℕ) (items given others handed : List Item) (accepted : Bool) (inside : at < length items)
+      (same : given ≡ items) (is_others : others ≡ remove given at)
+      (same_too : handed ≡ others) (told : TellsOk s (with_items handed i) accepted)
+          (so_far : IsThinning s i whole at items) where
     others_are : others ≡ remove items at
     others_are = is_others ∙ ap (λ l. remove l at) same
 
     told_of_others : (b : Bool) → accepted ≡ b → TellsOk s (with_items (remove items at) i) b
     told_of_others b e =
-        subst (λ l. TellsOk s (with_items l i) b) (same_too ∙ others_are) (subst (λ (x : Bool). TellsOk s (with_items handed i) x) e told)
+        subst (λ l. TellsOk s (with_items l i) b) (same_too ∙ others_are)
+            (subst (λ (x : Bool). TellsOk s (with_items handed i) x) e told)
 
     pub drops_one : accepted ≡ true → IsThinning s i whole at others
-    drops_one e = subst (IsThinning s i whole at) (sym others_are) (thinning_drops at items inside so_far (told_of_others true e))
+    drops_one e = subst (IsThinning s i whole at) (sym others_are)
+        (thinning_drops at items inside so_far (told_of_others true e))
 
     pub keeps_one : accepted ≡ false → IsThinning s i whole (at + 1) items
     keeps_one e = thinning_keeps at items inside so_far (told_of_others false e)

@@ -19,7 +19,8 @@ use Rattle.blk_patch.specs.Rounds.{AreSome}
 abbrev Bare : Verdict
 Bare = Verdict.Broken []
 
-found_some : (Otherwise : Verdict → Type 0) → (Otherwise Bare → ⊥) → (fs : List Finding) → IsFoundVerdict Otherwise fs Bare → ⊥
+found_some : (Otherwise : Verdict → Type 0) → (Otherwise Bare → ⊥) → (fs : List Finding)
+    → IsFoundVerdict Otherwise fs Bare → ⊥
 found_some Otherwise none [] h = none h
 found_some Otherwise none (f ∷ fs) h = cc
 
@@ -36,7 +37,8 @@ module _ (s : Statement) (i : Interface) where
 
   read_some : (live : List Shape) (xs : List Lines) (unread : Option Mark) → IsReadVerdict s i live xs unread Bare → ⊥
   read_some live xs (Some mark) h = cc
-  read_some live xs None h = found_some (IsBlocksVerdict s i live (graphs_of xs)) (blocks_some live (graphs_of xs)) (shape_findings i live xs) h
+  read_some live xs None h = found_some (IsBlocksVerdict s i live (graphs_of xs)) (blocks_some live (graphs_of xs))
+      (shape_findings i live xs) h
 
   readings_some : (live : List Shape) (read : Result (List Lines) LinesEnd) → IsReadingsVerdict s i live read Bare → ⊥
   readings_some live (Err end) h = cc

@@ -60,14 +60,16 @@ pub record WasOperand (items : List Item) (i : Interface) (k : ℕ) (o : Operand
   pub there : slice_get i.operands k ≡ Some before
   pub same : operand_with items k before ≡ o
 
-pub record WasAlternative (items : List Item) (i : Interface) (k a : ℕ) (o : OperandIface) (alt : AltIface) : Type 0 where
+pub record WasAlternative (items : List Item) (i : Interface) (k a : ℕ) (o : OperandIface)
+    (alt : AltIface) : Type 0 where
   pub operand : OperandIface
   pub before : AltIface
   pub there : HasAlternative i k a operand before
   pub same_operand : operand_with items k operand ≡ o
   pub same : alternative_with items k (is_output operand.role) before ≡ alt
 
-mapped : {A B : Type 0} (f : A → B) (o : Option A) (y : B) → option_map f o ≡ Some y → (x : A) × (o ≡ Some x) × (f x ≡ y)
+mapped : {A B : Type 0} (f : A → B) (o : Option A) (y : B) → option_map f o ≡ Some y
+    → (x : A) × (o ≡ Some x) × (f x ≡ y)
 mapped f None y e = cc
 mapped f (Some x) y e = (x, refl, some_same (f x) y e)
   where
@@ -91,10 +93,12 @@ module _ (items : List Item) (i : Interface) where
       let was = mapped (operand_with items k) (slice_get i.operands k) o (sym (with_at k) ∙ e) in
       record { before = was.0; there = was.1; same = was.2 }
 
-  was_alternative_of : (k a : ℕ) (o : OperandIface) (alt : AltIface) (was : WasOperand items i k o) → slice_get o.alts a ≡ Some alt → WasAlternative items i k a o alt
+  was_alternative_of : (k a : ℕ) (o : OperandIface) (alt : AltIface) (was : WasOperand items i k o)
+      → slice_get o.alts a ≡ Some alt → WasAlternative items i k a o alt
   was_alternative_of k a o alt was e =
       let f = alternative_with items k (is_output was.before.role) in
-      let at : slice_get (map f was.before.alts) a ≡ Some alt = subst (λ (q : OperandIface). slice_get q.alts a ≡ Some alt) (sym was.same) e in
+      let at : slice_get (map f was.before.alts) a ≡ Some alt = subst
+          (λ (q : OperandIface). slice_get q.alts a ≡ Some alt) (sym was.same) e in
       let alternative = mapped f (slice_get was.before.alts a) alt (sym (slice_get-map f was.before.alts a) ∙ at) in
       record {
         operand = was.before;
@@ -104,23 +108,27 @@ module _ (items : List Item) (i : Interface) where
         same = alternative.2;
       }
 
-  pub was_alternative : (k a : ℕ) (o : OperandIface) (alt : AltIface) → HasAlternative patched k a o alt → WasAlternative items i k a o alt
+  pub was_alternative : (k a : ℕ) (o : OperandIface) (alt : AltIface) → HasAlternative patched k a o alt
+      → WasAlternative items i k a o alt
   was_alternative k a o alt h = was_alternative_of k a o alt (was_operand k o h.is_operand) h.is_alternative
 
   has_with : (k a : ℕ) (o : OperandIface) (alt : AltIface) → HasAlternative i k a o alt
       → HasAlternative patched k a (operand_with items k o) (alternative_with items k (is_output o.role) alt)
   has_with k a o alt h = record {
     is_operand = with_at k ∙ ap (option_map (operand_with items k)) h.is_operand;
-    is_alternative = slice_get-map (alternative_with items k (is_output o.role)) o.alts a ∙ ap (option_map (alternative_with items k (is_output o.role))) h.is_alternative;
+    is_alternative = slice_get-map (alternative_with items k (is_output o.role)) o.alts a ∙ ap
+        (option_map (alternative_with items k (is_output o.role))) h.is_alternative;
   }
 
   -- ---- the whole
 
   module _ (is : IsInterface i) where
-    same_counts : (k j : ℕ) (o q : OperandIface) → WasOperand items i k o → WasOperand items i j q → length o.alts ≡ length q.alts
+    same_counts : (k j : ℕ) (o q : OperandIface) → WasOperand items i k o → WasOperand items i j q
+        → length o.alts ≡ length q.alts
     same_counts k j o q a b =
         subst (λ (x : OperandIface). length x.alts ≡ length q.alts) a.same
-        (subst (λ (x : OperandIface). length (map (alternative_with items k (is_output a.before.role)) a.before.alts) ≡ length x.alts) b.same
+        (subst (λ (x : OperandIface). length (map (alternative_with items k
+            (is_output a.before.role)) a.before.alts) ≡ length x.alts) b.same
         (length-map a.before.alts (alternative_with items k (is_output a.before.role))
         ∙ is.counts k j a.before b.before a.there b.there
         ∙ sym (length-map b.before.alts (alternative_with items j (is_output b.before.role)))))
@@ -134,10 +142,12 @@ module _ (items : List Item) (i : Interface) where
       untied = to.untied;
     }
 
-    not_early : (k a : ℕ) (o : OperandIface) (alt : AltIface) → is_output o.role ≡ false → alt.early ≡ false → (alternative_with items k (is_output o.role) alt).early ≡ false
+    not_early : (k a : ℕ) (o : OperandIface) (alt : AltIface) → is_output o.role ≡ false → alt.early ≡ false
+        → (alternative_with items k (is_output o.role) alt).early ≡ false
     not_early k a o alt input early = rw (early, input) refl
 
-    tie_with : (k a output : ℕ) (o : OperandIface) (alt : AltIface) → HasAlternative i k a o alt → alt.tied ≡ Some output
+    tie_with : (k a output : ℕ) (o : OperandIface) (alt : AltIface) → HasAlternative i k a o alt
+        → alt.tied ≡ Some output
         → IsTie patched k a output (operand_with items k o) (alternative_with items k (is_output o.role) alt)
     tie_with k a output o alt h tied =
         let tie = is.ties k a output o alt h tied in
@@ -148,29 +158,35 @@ module _ (items : List Item) (i : Interface) where
           not_early = not_early k a o alt tie.input_alone tie.not_early;
         }
 
-    ties : (k a output : ℕ) (o : OperandIface) (alt : AltIface) → WasAlternative items i k a o alt → alt.tied ≡ Some output → IsTie patched k a output o alt
+    ties : (k a output : ℕ) (o : OperandIface) (alt : AltIface) → WasAlternative items i k a o alt
+        → alt.tied ≡ Some output → IsTie patched k a output o alt
     ties k a output o alt was tied =
         subst (λ (q : OperandIface). IsTie patched k a output q alt) was.same_operand
         (subst (λ (x : AltIface). IsTie patched k a output (operand_with items k was.operand) x) was.same
         (tie_with k a output was.operand was.before was.there (ap (λ (x : AltIface). x.tied) was.same ∙ tied)))
 
-    marked : (k a : ℕ) (o : OperandIface) (alt : AltIface) → HasAlternative i k a o alt → (early output item : Bool) → alt.early ≡ early → is_output o.role ≡ output
+    marked : (k a : ℕ) (o : OperandIface) (alt : AltIface) → HasAlternative i k a o alt → (early output item : Bool)
+        → alt.early ≡ early → is_output o.role ≡ output
         → (early || (output && item)) ≡ true → is_output o.role ≡ true
     marked k a o alt h true output item early out e = is.early k a o alt h early
     marked k a o alt h false true item early out e = out
     marked k a o alt h false false item early out e = cc
 
-    early : (k a : ℕ) (o : OperandIface) (alt : AltIface) → WasAlternative items i k a o alt → IsTrue alt.early → IsTrue (is_output o.role)
+    early : (k a : ℕ) (o : OperandIface) (alt : AltIface) → WasAlternative items i k a o alt → IsTrue alt.early
+        → IsTrue (is_output o.role)
     early k a o alt was e =
         subst (λ (q : OperandIface). is_output q.role ≡ true) was.same_operand
         (output_with items k was.operand.role
-        ∙ marked k a was.operand was.before was.there was.before.early (is_output was.operand.role) (has items (Item.Early k)) refl refl
+        ∙ marked k a was.operand was.before was.there was.before.early (is_output was.operand.role)
+            (has items (Item.Early k)) refl refl
         (ap (λ (x : AltIface). x.early) was.same ∙ e))
 
-    numbered : (o : OperandIface) (alt alt2 : AltIface) (k : ℕ) (range : ℤ × ℤ) → HasNumber o alt range → HasNumber (operand_with items k o) alt2 range
+    numbered : (o : OperandIface) (alt alt2 : AltIface) (k : ℕ) (range : ℤ × ℤ) → HasNumber o alt range
+        → HasNumber (operand_with items k o) alt2 range
     numbered o alt alt2 k range n = record { low = n.low; high = n.high; least = n.least; known = n.known }
 
-    numbers : (k a : ℕ) (o : OperandIface) (alt : AltIface) (range : ℤ × ℤ) → WasAlternative items i k a o alt → alt.numbers ≡ Some range → HasNumber o alt range
+    numbers : (k a : ℕ) (o : OperandIface) (alt : AltIface) (range : ℤ × ℤ) → WasAlternative items i k a o alt
+        → alt.numbers ≡ Some range → HasNumber o alt range
     numbers k a o alt range was e =
         subst (λ (q : OperandIface). HasNumber q alt range) was.same_operand
         (numbered was.operand was.before alt k range

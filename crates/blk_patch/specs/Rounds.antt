@@ -1,4 +1,5 @@
--- How a statement is patched: items are added by the verdicts that the statement has with them, and those are left that it is accepted with and not
+-- How a statement is patched: items are added by the verdicts that the statement has with them, and those are left
+-- that it is accepted with and not
 -- without. This project's own.
 use Rattle.std.specs.Prelude.{◌≡◌, ◌&&◌, List, [], ◌∷◌, ◌++◌, Bool, true, false, Option, None, Some, find, is_none, if◌then◌else◌}
 use Rattle.asm_core.specs.declared.finding.Rule.{Rule}
@@ -36,9 +37,11 @@ if_clobber x = None
 -- the first of them that is a register's clobber
 unfoldable pub first_clobber : Body → Interface → List Item → List Finding → Option Item
 first_clobber body patched items [] = None
-first_clobber body patched items (f ∷ fs) = or_item (if_clobber (new_item body patched items f)) (first_clobber body patched items fs)
+first_clobber body patched items (f ∷ fs) = or_item (if_clobber (new_item body patched items f))
+    (first_clobber body patched items fs)
 
--- Early marks are items of one rule alone, and this rule's clobbers are taken before them. A clobber of a rule before it would be the first item.
+-- Early marks are items of one rule alone, and this rule's clobbers are taken before them. A clobber of a rule before
+-- it would be the first item.
 abbrev pub preferred : Option Item → Option Item → Option Item
 preferred (Some (Item.Early k)) clobber = or_item clobber (Some (Item.Early k))
 preferred first clobber = first
@@ -66,13 +69,15 @@ is_without_room items fs = are_some items && begins_with_k1 fs
 
 -- the item to add by the verdict on the statement with these
 abbrev pub next_by : Body → Interface → List Item → Verdict → Option Item
-next_by body patched items (Verdict.Broken fs) = if is_without_room items fs then None else next_item body patched items fs
+next_by body patched items
+    (Verdict.Broken fs) = if is_without_room items fs then None else next_item body patched items fs
 next_by body patched items v = None
 
 -- items that are added one by one, each by the verdict on the statement with those before it
 pub data IsReached (s : Statement) (i : Interface) : List Item → Type 0 where
   begins : IsReached s i []
-  adds : (items : List Item) (v : Verdict) (x : Item) → IsReached s i items → IsVerdict s (with_items items i) v → next_by s.body (with_items items i) items v ≡ Some x
+  adds : (items : List Item) (v : Verdict) (x : Item) → IsReached s i items → IsVerdict s (with_items items i) v
+      → next_by s.body (with_items items i) items v ≡ Some x
       → IsReached s i (items ++ x ∷ [])
 
 -- ---- items that stay
@@ -81,12 +86,15 @@ abbrev pub is_ok : Verdict → Bool
 is_ok (Verdict.Ok proof) = true
 is_ok v = false
 
--- Of the items, in their order, each is dropped without which the statement is accepted; `kept` are those that stay of the ones before.
+-- Of the items, in their order, each is dropped without which the statement is accepted; `kept` are those that stay
+-- of the ones before.
 pub data IsThinned (s : Statement) (i : Interface) : List Item → List Item → List Item → Type 0 where
   done : (kept : List Item) → IsThinned s i kept [] kept
-  drops : (kept : List Item) (x : Item) (rest left : List Item) (v : Verdict) → IsVerdict s (with_items (kept ++ rest) i) v → is_ok v ≡ true
+  drops : (kept : List Item) (x : Item) (rest left : List Item) (v : Verdict)
+      → IsVerdict s (with_items (kept ++ rest) i) v → is_ok v ≡ true
       → IsThinned s i kept rest left → IsThinned s i kept (x ∷ rest) left
-  keeps : (kept : List Item) (x : Item) (rest left : List Item) (v : Verdict) → IsVerdict s (with_items (kept ++ rest) i) v → is_ok v ≡ false
+  keeps : (kept : List Item) (x : Item) (rest left : List Item) (v : Verdict)
+      → IsVerdict s (with_items (kept ++ rest) i) v → is_ok v ≡ false
       → IsThinned s i (kept ++ x ∷ []) rest left → IsThinned s i kept (x ∷ rest) left
 
 -- whether the statement is accepted with that interface
@@ -120,7 +128,8 @@ IsRefusedEnd body patched items (f ∷ fs) false end = end ≡ PatchEnd.NoPatch 
 -- what is answered where no item is added any more
 abbrev pub IsEnd : Statement → Interface → List Item → Verdict → PatchEnd → Type 0
 IsEnd s i items (Verdict.Ok proof) end = IsAcceptedEnd s i items end
-IsEnd s i items (Verdict.Broken fs) end = IsRefusedEnd s.body (with_items items i) items fs (is_without_room items fs) end
+IsEnd s i items (Verdict.Broken fs) end = IsRefusedEnd s.body (with_items items i) items fs
+    (is_without_room items fs) end
 IsEnd s i items (Verdict.Outside mark) end = end ≡ PatchEnd.Outside mark
 
 -- items that were added, where by the verdict no more is added

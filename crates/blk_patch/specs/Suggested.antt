@@ -32,7 +32,8 @@ abbrev pub or_item : Option Item → Option Item → Option Item
 or_item None other = other
 or_item (Some x) other = Some x
 
--- Where a place was overwritten: its register is to be clobbered, if it is no operand's, else that of the place that was overwritten, else the
+-- Where a place was overwritten: its register is to be clobbered, if it is no operand's, else that of the place that
+-- was overwritten, else the
 -- output is early.
 abbrev pub overwriter_item : Interface → Cell → Cell → Option Item
 overwriter_item i d u = or_item (or_item (clobber_of d) (clobber_of u)) (early_of i d)
@@ -60,7 +61,8 @@ ties_to k o = list_any (λ (alt : AltIface). is_tie_to k alt.tied) o.alts
 
 -- GCC takes 30 operands, an output that is read too counted twice, and no tie to such an output.
 abbrev pub may_be_read : Interface → ℕ → Bool
-may_be_read i k = written_in (slice_get i.operands k) && (not (list_any (ties_to k) i.operands) && nat_lt (length i.operands + count_by is_in_out i.operands) 30)
+may_be_read i k = written_in (slice_get i.operands k) && (not (list_any (ties_to k) i.operands) && nat_lt
+    (length i.operands + count_by is_in_out i.operands) 30)
 
 abbrev pub plus_of : Interface → Cell → Option Item
 plus_of i (Cell.Operand k) = if may_be_read i k then Some (Item.Plus k) else None

@@ -9,4 +9,5 @@ returns-then-is_high_outside c =
 pub loop-byte-preserved : goal.loop-byte-preserved
 loop-byte-preserved c =
     high_next c.loop-byte.inside c.args.constraint.now c.loop-byte.byte-index _ c.loop-byte-test.true c.loop-byte.invariant
-    c.is_inside_after-inside.result c.is_inside_after-inside.ensures (sym c.is_high_outside.ensures ∙ c.if-is_high_outside.false)
+    c.is_inside_after-inside.result c.is_inside_after-inside.ensures
+        (sym c.is_high_outside.ensures ∙ c.if-is_high_outside.false)

@@ -14,6 +14,7 @@ check-requires-clause-stated c =
 pub returns : goal.returns
 returns c = record {
   verdict = c.in_ok-verdict.verdict;
-  is_verdict = subst (λ x. IsVerdict c.args.statement.now x c.in_ok-verdict.verdict) c.in_ok-patched.ensures c.in_ok-verdict.ensures;
+  is_verdict = subst
+      (λ x. IsVerdict c.args.statement.now x c.in_ok-verdict.verdict) c.in_ok-patched.ensures c.in_ok-verdict.ensures;
   tells = sym c.is_ok.ensures;
 }
