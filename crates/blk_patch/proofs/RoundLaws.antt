@@ -25,7 +25,7 @@ use Rattle.asm_core.specs.declared.interface.Interface.{Interface}
 use Rattle.blk_check.specs.Judged.{IsInterfaceOf}
 use Rattle.blk_check.specs.declared.verdict.Verdict.{Verdict}
 use Rattle.blk_patch.specs.Items.{item_number, has, with_items}
-use Rattle.blk_patch.specs.Suggested.{clobber_of, output_in, early_of, or_item, overwriter_item, written_in, may_be_read, plus_of, may_lose_high, byte_in, byte_of, item_by, item_of}
+use Rattle.blk_patch.specs.Suggested.{HasFew, clobber_of, output_in, early_of, or_item, overwriter_item, written_in, may_be_read, plus_of, may_lose_high, byte_in, byte_of, item_by, item_of}
 use Rattle.blk_patch.specs.Rounds.{unless_there, new_item, first_new, if_clobber, first_clobber, preferred, next_item, is_without_room, next_by, IsReached}
 use Rattle.blk_patch.specs.declared.item.Item.{Item}
 use Rattle.blk_patch.proofs.WithLaws.{with_long}
@@ -115,10 +115,6 @@ module _ (w : Interface) (few : length w.operands ≤ 30) where
         (either (clobber_of d) (clobber_of u) x clobber) [ inl a ↦ clobber_below d x a | inr b ↦ clobber_below u x b ]
     | inr early ↦ early_below d x early
   ]
-
--- the operands of a statement's parts are at most 30
-abbrev HasFew : Body → Type 0
-HasFew body = (parts : Parts) → body ≡ Body.Parts parts → length (parts.outputs ++ parts.inputs) ≤ 30
 
 byte_below_in : (body : Body) → HasFew body → (k : ℕ) (x : Item) → byte_in body k ≡ Some x → IsBelow x
 byte_below_in (Body.Parts parts) few k x e =
@@ -286,7 +282,7 @@ one_more items x are new =
     parts q false h e = one_below q (item_number x) new.below (rw h at e)
 
 module _ (s : Statement) (i : Interface) (is : IsInterface i) (stated : IsInterfaceOf i s) where
-  parts_few : HasFew s.body
+  pub parts_few : HasFew s.body
   parts_few parts e =
       let same : stated.parts ≡ parts = parts_same stated.parts parts (sym stated.has_parts ∙ e) in
       let count = stated.count in

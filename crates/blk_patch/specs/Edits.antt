@@ -1,25 +1,29 @@
--- The edits of a statement's text that stand for items. This project's own.
-use Rattle.std.specs.Prelude.{ℕ, ◌+◌, ◌==◌, ◌&&◌, ◌||◌, not, map, filter, take_while, List, [], ◌∷◌, ◌++◌, codes, Bool, true, false, if◌then◌else◌}
-use Rattle.std.specs.List.{list_any, flat_map}
-use Rattle.asm_core.specs.Lists.{count_from}
-use Rattle.asm_core.specs.Constraint.{is_comma, is_close_bracket}
+-- The edits of a statement's text that stand for items: all other bytes stay. This project's own.
+use Rattle.std.specs.Prelude.{ℕ, ◌+◌, ◌==◌, ◌&&◌, ◌||◌, not, map, filter, List, [], ◌∷◌, ◌++◌, codes, Bool, true, false, if◌then◌else◌}
+use Rattle.std.specs.List.{list_any, take_while}
+use Rattle.asm_core.specs.Constraint.{is_comma}
 use Rattle.asm_core.specs.Reg.{reg_name}
-use Rattle.asm_core.specs.declared.span.Span.{Span}
+use Rattle.asm_core.specs.declared.reg.Reg.TheVariants.{Eax, Ebx, Ecx, Edx, Esi, Edi, Ebp}
 use Rattle.asm_core.specs.declared.edit.Edit.{Edit}
 use Rattle.asm_core.specs.declared.statement.Quoted.{Quoted}
 use Rattle.asm_core.specs.declared.statement.Part.{Part}
 use Rattle.asm_core.specs.declared.statement.Parts.{Parts}
-use Rattle.blk_patch.specs.Items.{has, registers}
+use Rattle.asm_core.specs.declared.statement.Body.{Body}
+use Rattle.blk_patch.specs.Items.{has}
+use Rattle.blk_patch.specs.Suggested.{is_inside_after}
 use Rattle.blk_patch.specs.declared.item.Item.{Item}
+use Rattle.blk_patch.specs.declared.constraint.Change.{Change}
+use Rattle.blk_patch.specs.declared.constraint.Spot.{Spot}
 
 -- ---- constraints
 
--- the byte at that offset gives way to another
-abbrev pub replaced : ℕ → List ℕ → Edit
-replaced at text = record { span = record { from = at; to = at + 1 }; text = text }
+-- what is to change in operand k's constraint
+abbrev pub change_of : List Item → ℕ → Change
+change_of items k = record { plus = has items (Item.Plus k); early = has items (Item.Early k); byte = has items (Item.Byte k) }
 
-abbrev pub inserted : ℕ → List ℕ → Edit
-inserted at text = record { span = record { from = at; to = at }; text = text }
+-- the bytes from one offset to another give way to others
+abbrev pub edit_at : ℕ → ℕ → List ℕ → Edit
+edit_at from to text = record { span = record { from = from; to = to }; text = text }
 
 abbrev pub edit_if : Bool → Edit → List Edit
 edit_if b e = if b then e ∷ [] else []
@@ -30,66 +34,94 @@ is_not_comma b = not (is_comma b)
 abbrev pub is_early_mark : ℕ → Bool
 is_early_mark b = b == 38
 
--- the alternative that begins these bytes is early
+-- the alternative that these bytes begin with is early
 abbrev pub is_early : List ℕ → Bool
 is_early bs = list_any is_early_mark (take_while is_not_comma bs)
 
--- a bracket is open behind the byte
-abbrev pub is_inside_after : Bool → ℕ → Bool
-is_inside_after true b = not (is_close_bracket b)
-is_inside_after false b = b == 91
+-- `+` for the sign that an output begins with
+abbrev pub asks_plus : Change → Spot → Bool
+asks_plus change spot = spot.first && change.plus
 
--- The edits at one byte of operand k's constraint, the bytes `bs` standing behind it: `+` for the sign that it begins with, `q` for the letter `r`,
--- and `&` behind the sign and behind each comma, where the alternative has none.
-abbrev pub byte_edits : List Item → ℕ → Bool → Bool → ℕ → List ℕ → ℕ → List Edit
-byte_edits items k first inside b bs at =
-    edit_if (first && has items (Item.Plus k)) (replaced at (codes "+"))
-    ++ edit_if ((not inside && b == 114) && has items (Item.Byte k)) (replaced at (codes "q"))
-    ++ edit_if (((first || is_comma b) && has items (Item.Early k)) && not (is_early bs)) (inserted (at + 1) (codes "&"))
+-- `q` for the letter `r`, not in brackets
+abbrev pub asks_byte : Change → Spot → ℕ → Bool
+asks_byte change spot b = (not spot.inside && b == 114) && change.byte
 
--- those at the bytes, each with its offset in the file; `inside` says that a bracket is open
-unfoldable pub edits_from : List Item → ℕ → Bool → Bool → List ℕ → List ℕ → List Edit
-edits_from items k first inside [] ats = []
-edits_from items k first inside (b ∷ bs) [] = []
-edits_from items k first inside (b ∷ bs) (at ∷ ats) = byte_edits items k first inside b bs at ++ edits_from items k false (is_inside_after inside b) bs ats
+-- `&` behind the sign and behind each comma, where the alternative has none
+abbrev pub asks_early : Change → Spot → ℕ → List ℕ → Bool
+asks_early change spot b behind = ((spot.first || is_comma b) && change.early) && not (is_early behind)
 
-abbrev pub constraint_edits : List Item → ℕ → Quoted → List Edit
-constraint_edits items k q = edits_from items k true false q.bytes q.at
+-- the edits at a byte with that offset, before the others
+abbrev pub byte_edits : Change → Spot → ℕ → List ℕ → ℕ → List Edit
+byte_edits change spot b behind at =
+    edit_if (asks_plus change spot) (edit_at at (at + 1) (codes "+"))
+    ++ edit_if (asks_byte change spot b) (edit_at at (at + 1) (codes "q"))
+    ++ edit_if (asks_early change spot b behind) (edit_at (at + 1) (at + 1) (codes "&"))
+
+abbrev pub spot_after : Spot → ℕ → Spot
+spot_after spot b = record { first = false; inside = is_inside_after spot.inside b }
+
+-- those at the bytes, each with its offset in the file
+unfoldable pub edits_from : Change → Spot → List ℕ → List ℕ → List Edit
+edits_from change spot [] ats = []
+edits_from change spot (b ∷ bs) [] = []
+edits_from change spot (b ∷ bs) (at ∷ ats) = byte_edits change spot b bs at ++ edits_from change (spot_after spot b) bs ats
+
+abbrev pub beginning : Spot
+beginning = record { first = true; inside = false }
+
+abbrev pub constraint_edits : Change → Quoted → List Edit
+constraint_edits change q = edits_from change beginning q.bytes q.at
 
 -- operands that are numbered from k upwards
 unfoldable pub operand_edits : List Item → ℕ → List Part → List Edit
 operand_edits items k [] = []
-operand_edits items k (p ∷ ps) = constraint_edits items k p.constraint ++ operand_edits items (k + 1) ps
+operand_edits items k (p ∷ ps) = constraint_edits (change_of items k) p.constraint ++ operand_edits items (k + 1) ps
 
 -- ---- the clobber list
 
-abbrev pub name_if : Bool → List ℕ → List (List ℕ)
-name_if b name = if b then name ∷ [] else []
+-- the clobbers in the order in which they are written
+abbrev pub clobbers : List Item
+clobbers =
+    Item.Clobber Eax ∷ Item.Clobber Ebx ∷ Item.Clobber Ecx ∷ Item.Clobber Edx ∷ Item.Clobber Esi ∷ Item.Clobber Edi ∷ Item.Clobber Ebp
+    ∷ Item.Memory ∷ Item.Cc ∷ []
 
--- the names of the items that are clobbers: registers in their order, `memory`, `cc`
-abbrev pub clobber_names : List Item → List (List ℕ)
-clobber_names items =
-    flat_map (λ r. name_if (has items (Item.Clobber r)) (reg_name r)) registers
-    ++ name_if (has items Item.Memory) (codes "memory")
-    ++ name_if (has items Item.Cc) (codes "cc")
+abbrev pub clobber_name : Item → List ℕ
+clobber_name (Item.Clobber r) = reg_name r
+clobber_name Item.Memory = codes "memory"
+clobber_name Item.Cc = codes "cc"
+clobber_name x = []
+
+-- the names of those that are among the items
+abbrev pub names_among : List Item → List Item → List (List ℕ)
+names_among items xs = map clobber_name (filter (has items) xs)
 
 abbrev pub quoted : List ℕ → List ℕ
 quoted name = codes "\"" ++ name ++ codes "\""
 
-abbrev pub listed_after : List ℕ → List ℕ
-listed_after name = codes ", " ++ quoted name
+-- the names in quotes, with that before the first of them and a comma before each other one
+unfoldable pub listed : List ℕ → List (List ℕ) → List ℕ
+listed lead [] = []
+listed lead (name ∷ names) = lead ++ quoted name ++ listed (codes ", ") names
 
 -- what stands before the first new name, by the colons that are there and by the names behind the last of them
 abbrev pub lead_of : ℕ → List Quoted → List ℕ
 lead_of colons (q ∷ qs) = codes ", "
 lead_of colons [] = if colons == 1 then codes " : : " else if colons == 2 then codes " : " else codes " "
 
-abbrev pub names_edit : Parts → List (List ℕ) → List Edit
-names_edit parts [] = []
-names_edit parts (name ∷ names) = inserted parts.last (lead_of parts.colons parts.clobbers ++ quoted name ++ flat_map listed_after names) ∷ []
+-- an insertion of some text
+abbrev pub insertion_of : ℕ → List ℕ → List Edit
+insertion_of at [] = []
+insertion_of at (b ∷ bs) = edit_at at at (b ∷ bs) ∷ []
+
+abbrev pub clobber_edits : List Item → Parts → List Edit
+clobber_edits items parts = insertion_of parts.last (listed (lead_of parts.colons parts.clobbers) (names_among items clobbers))
 
 -- ---- the whole
 
--- in order of place: all other bytes of the text stay
+-- in order of place
 unfoldable pub edits_of : List Item → Parts → List Edit
-edits_of items parts = operand_edits items 0 (parts.outputs ++ parts.inputs) ++ names_edit parts (clobber_names items)
+edits_of items parts = operand_edits items 0 (parts.outputs ++ parts.inputs) ++ clobber_edits items parts
+
+abbrev pub edits_in : List Item → Body → List Edit
+edits_in items (Body.Parts parts) = edits_of items parts
+edits_in items (Body.Outside mark) = []

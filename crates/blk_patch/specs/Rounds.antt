@@ -10,6 +10,7 @@ use Rattle.asm_core.specs.declared.interface.Interface.{Interface}
 use Rattle.blk_check.specs.Judged.{IsVerdict}
 use Rattle.blk_check.specs.declared.verdict.Verdict.{Verdict}
 use Rattle.blk_patch.specs.Items.{has, with_items}
+use Rattle.blk_patch.specs.Edits.{edits_in}
 use Rattle.blk_patch.specs.Suggested.{item_of, or_item}
 use Rattle.blk_patch.specs.declared.item.Item.{Item}
 use Rattle.blk_patch.specs.declared.rounds.Reached.{Reached}
@@ -118,7 +119,7 @@ refusing body patched first fs = elim (find (has_no_item body patched) fs) [ Non
 
 abbrev pub IsAcceptedEnd : Statement → Interface → List Item → PatchEnd → Type 0
 IsAcceptedEnd s i [] end = end ≡ PatchEnd.Nothing
-IsAcceptedEnd s i (x ∷ xs) end = (left : List Item) × IsThinned s i [] (x ∷ xs) left × (end ≡ PatchEnd.Patched left)
+IsAcceptedEnd s i (x ∷ xs) end = (left : List Item) × IsThinned s i [] (x ∷ xs) left × (end ≡ PatchEnd.Patched left (edits_in left s.body))
 
 abbrev pub IsRefusedEnd : Body → Interface → List Item → List Finding → Bool → PatchEnd → Type 0
 IsRefusedEnd body patched items fs true end = end ≡ PatchEnd.NoRoom items

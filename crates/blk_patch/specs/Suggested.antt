@@ -1,5 +1,5 @@
 -- The item that would mend a finding, if there is one. This project's own.
-use Rattle.std.specs.Prelude.{ℕ, ◌+◌, ◌==◌, ◌&&◌, ◌||◌, nat_lt, not, length, count_by, List, [], ◌∷◌, ◌++◌, Bool, true, false, Option, None, Some, slice_get, if◌then◌else◌}
+use Rattle.std.specs.Prelude.{◌≡◌, ◌≤◌, ℕ, ◌+◌, ◌==◌, ◌&&◌, ◌||◌, nat_lt, not, length, count_by, List, [], ◌∷◌, ◌++◌, Bool, true, false, Option, None, Some, slice_get, if◌then◌else◌}
 use Rattle.std.specs.List.{list_any}
 use Rattle.asm_core.specs.Constraint.{is_close_bracket}
 use Rattle.asm_core.specs.Placement.{is_output}
@@ -90,6 +90,10 @@ has_high_letter constraint = has_high_from false constraint
 abbrev pub may_lose_high : Option Part → Bool
 may_lose_high None = false
 may_lose_high (Some part) = not (has_high_letter part.constraint.bytes)
+
+-- the operands of a statement's parts are at most 30
+abbrev pub HasFew : Body → Type 0
+HasFew body = (parts : Parts) → body ≡ Body.Parts parts → length (parts.outputs ++ parts.inputs) ≤ 30
 
 abbrev pub byte_if : Bool → ℕ → Option Item
 byte_if b k = if b then Some (Item.Byte k) else None

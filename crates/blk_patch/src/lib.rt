@@ -1,6 +1,8 @@
 //! Patches a statement: what its constraints and its clobber list lack, and nothing beside it.
 #![tactic(auto)]
 
+mod clobber_list;
+mod constraint;
 mod edits;
 mod interface;
 mod item;
@@ -10,6 +12,5 @@ mod rounds;
 mod suggestion;
 mod thinning;
 
-pub use edits::edits;
 pub use item::Item;
 pub use patches::{PatchEnd, patch};

@@ -6,10 +6,11 @@ ghost use Rattle.blk_check.specs.Judged.{IsInterfaceOf};
 ghost use Rattle.blk_patch.specs.Rounds.{IsPatch, IsReachedEnd, IsEnd, IsAcceptedEnd, IsRefusedEnd, AreSome, refusing, has_no_item, is_without_room};
 
 use crate::Item;
+use crate::edits::edits_in;
 use crate::rounds::{Reached, is_without_room, reach};
 use crate::suggestion::item_of;
 use crate::thinning::thin;
-use asm_core::{Body, Finding, Interface, Items, Mark, Memory, Statement};
+use asm_core::{Body, Edit, Finding, Interface, Items, Mark, Memory, Statement};
 use blk_check::Verdict;
 use std::alloc::Global;
 
@@ -18,8 +19,8 @@ use std::alloc::Global;
 pub enum PatchEnd {
     /// It is accepted as it stands.
     Nothing,
-    /// With these items it is accepted, and without any of them it isn't.
-    Patched(Items<Item>),
+    /// With these items it is accepted, and without any of them it isn't: the edits that stand for them.
+    Patched(Items<Item>, Items<Edit>),
     /// A rule that is broken and that no item mends.
     NoPatch(Finding),
     /// With these items no placement has room.
@@ -69,7 +70,9 @@ fn accepted(
     if items.is_empty() {
         return Ok(PatchEnd::Nothing);
     }
-    Ok(PatchEnd::Patched(thin(alloc, statement, interface, items)?))
+    let left = thin(alloc, statement, interface, items)?;
+    let edits = edits_in(alloc, &statement.body, left.as_slice())?;
+    Ok(PatchEnd::Patched(left, edits))
 }
 
 /// The answer where this is found of the statement with these items, and no more are added.
