@@ -1,3 +1,4 @@
+pub mod EditLaws
 pub mod FindingLaws
 pub mod InterfaceLaws
 pub mod LetterLaws

@@ -143,7 +143,8 @@ pub fn push_constraint(
         first: true,
         inside: false,
     };
-    for (n, at) in constraint.at.as_slice().iter().enumerate() {
+    let ats = constraint.at.as_slice();
+    for (n, at) in ats.iter().enumerate() {
         if n >= bytes.len() {
             return Ok(());
         }

@@ -35,7 +35,6 @@ fn edits_of(alloc: Global, parts: &Parts, items: &[Item]) -> Result<Items<Edit>,
 }
 
 /// Those of operands, which are numbered from `first` upwards.
-#[tactic(auto, using(crate::proofs::EditLaws::operands_more, crate::proofs::EditLaws::operands_begin))]
 fn push_operands(
     alloc: Global,
     edits: &mut Items<Edit>,
