@@ -30,7 +30,8 @@ fn last_name(source: &Source<'_>, first: usize) -> usize
 
 /// Whether names alone stand in the parenthesis at the index.
 fn holds_names(source: &Source<'_>, paren: usize) -> bool
-    requires { paren < length source.now.tokens }
+    requires inside { paren < length source.now.tokens }
+    requires few { length source.now.tokens < 4294967296 }
     ensures { result ≡ holds_names source.now paren }
 {
     let last = last_name(source, paren + 1);
@@ -70,7 +71,8 @@ pub fn has_list(source: &Source<'_>, first: usize) -> bool
 /// The index of the brace that directly follows a semicolon: that at the index, or one of the `more - 1` behind it at its level.
 #[tactic(auto, using(crate::proofs::RecoveryLemmas::body_steps))]
 pub fn body_behind(source: &Source<'_>, more: usize, first: usize) -> Option<usize>
-    requires { first < length source.now.tokens }
+    requires inside { first < length source.now.tokens }
+    requires few { length source.now.tokens < 4294967296 }
     ensures is { result ≡ body_behind source.now more first }
     ensures within { IfSome result (λ brace. (first < brace) × (brace < length source.now.tokens)) }
 {

@@ -116,7 +116,8 @@ impl Within {
 
     /// Where the declaration ends whose first semicolon at its level has the index.
     fn at_semicolon(self, source: &Source<'_>, i: usize) -> Uncovered
-        requires { i < length source.now.tokens }
+        requires inside { i < length source.now.tokens }
+        requires few { length source.now.tokens < 4294967296 }
         ensures is { result ≡ at_semicolon source.now i self }
         ensures behind { i ≤ result.end }
     {
