@@ -4,10 +4,12 @@
     checks/rare_forms.py [--size small|full]
 
 The rows below are texts that real files hardly have: tags and bodies behind attributes of all spellings, typedef
-names that are declared again, attributes that gcc counts in `typeof`, null pointer constants, tokens that gcc cuts
-otherwise. A small program over c_exprs, built without a proof by `rt try`, prints the sizes of their operands; gcc -m32
-compiles the same texts with the sizes in place of the operands. Where gcc refuses a text, the program may give no size.
-Both sizes are the same. Status 0 where no size is another than gcc's, 77 where there is no gcc for -m32, else 1.
+names that are declared again, braces of other dialects, parameters that are named in their own list, identifier lists,
+null pointer constants, `#pragma pack`, tokens that gcc cuts otherwise. A small program over c_exprs, built without a
+proof by `rt try`, prints the sizes of their operands; gcc -m32 compiles the same texts with the sizes in place of the
+operands. Where gcc refuses a text (a form of another compiler, or of C to come), the program may give no size, but for
+rows with one of their own. Both sizes are the same. Status 0 where no size is another than gcc's, 77 where there is no
+gcc for -m32, else 1.
 """
 import pathlib
 import re
@@ -35,15 +37,29 @@ TEXTS = [
     "struct s {int a;}; void f(void) { for (; sizeof(struct __attribute((packed)) s {short a;});) "
     "{ struct s v; @(v.a) } }",
     "struct s {int a;}; void f(void) { struct [[gnu::unused]] s; struct s *p; struct s {short a;}; @(p->a) }",
+    "struct s {int a;}; void f(void) { struct s __attribute__((unused)); struct s *p; struct s {short a;}; @(p->a) }",
+    "struct s {int a;}; void f(void) { [[gnu::unused]] struct s; struct s *p; struct s {short a;}; @(p->a) }",
     "void f(void) { char B; { enum e : short {B}; @(B) } }",
+    "enum e {A}; void f(void) { enum e : short {B}; enum e y; @(y) }",
     # typedef names that are declared again
     "typedef int T; void f(void) { typedef short [[]] T __attribute((unused)); T w; @(w) }",
     "typedef short U; typedef int T; void f(void) { typedef U __attribute((unused)) (T); T w; @(w) }",
+    "typedef int T; void f(void) { short _Atomic typedef ((T)); T w; @(w) }",
     "typedef int T; void f(void) { char y; __auto_type z = (T)1; { T *y; @(y) } }",
     # tokens that gcc cuts otherwise
     "void f(int x) { <% short x; @(x) %> }",
     "void f(int x) { char s<:2:>; @(s) }",
-    # words that declare before parentheses
+    # braces and heads that no C11 has
+    "void f(void) { int x; __transaction_relaxed { short x = 1; @(x) } }",
+    "void f(void) { int x; each(x) { short x = 1; @(x) } @(x) }",
+    "void f(void) { int x, a; x = lazy { short x; @(x) }; }",
+    "void f(void) { int x, a; if (short x = 1; a) { @(x) } }",
+    # parameters in their own list, identifier lists and what looks like one
+    "int x; void g(char x, __typeof__(x) z) { @(z) }",
+    "enum {n = 3}; void g(int n, int (*a)[n]) { @(*a) }",
+    "typedef char *T; short b; int g(a, b) T a; int b; { @(b) return 0; } void h(void) { @(b) }",
+    "int b; int g(a, b) __builtin_va_list a; short b; { @(b) return 0; } void h(void) { @(b) }",
+    "int b; int (*g(a, b))(int) int a; short b; { @(b) return 0; } void h(void) { @(b) }",
     "_Alignas(8) char w[3]; void f(void) { int z; @(z) @(w) }",
     "_Atomic(int) volatile v; void f(void) { int z; @(z) }",
     "static __thread __attribute__((unused)) int t; void f(void) { int z; @(z) }",
@@ -58,8 +74,12 @@ TEXTS = [
     "void f(int c, int *p, char *q) { @(*(c ? p : (int *)q)) @(*(c ? p : q)) @((c ? p : q)) }",
     "struct s {short a;}; void f(int c, struct s *p) { @((c ? p : p)->a) }",
     # layouts
+    "#pragma pack(1)\nstruct s {char c; int a;}; struct s v; void f(void) { @(v) @(v.a) }",
+    "#pragma /* all */ pack(1)\nstruct s {char c; int a;}; struct s v; void f(void) { @(v) }",
     "struct s {char c; int a;}; struct s v; void f(void) { @(v) }\n#pragma pack(1)\n",
 ]
+# Such texts that gcc refuses, with the sizes that they have by another standard.
+SIZED = {"void f(void) { int x, a; if (short x = 1; a) { @(x) } }": [2]}
 
 
 def operands(text):
@@ -92,7 +112,7 @@ def disagreements(text, lines):
     # A statement that is outside has no operand to be wrong about.
     given = [line.split(" ")[3] if line.startswith("operand") else None for line in lines if line.strip()
              and line.split(" ")[0] in ("operand", "untyped", "outside")]
-    wanted = measured(text) or [None] * len(given)
+    wanted = SIZED.get(text, measured(text)) or [None] * len(given)
     if len(given) != len(wanted):
         yield f"{text}: {len(given)} statements and not {len(wanted)}"
     for size, gcc_size in zip(given, wanted):

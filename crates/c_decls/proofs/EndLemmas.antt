@@ -1,14 +1,12 @@
 -- Where parts end.
 use Rattle.std.proofs.Common.{◌≡◌, ℕ, ◌<◌, ◌≤◌, Bool, true, false, ◌||◌, length, refl}
 use Rattle.c_words.specs.File.{File}
-use Rattle.c_words.specs.Words.{word_at, past_group}
+use Rattle.c_words.specs.Words.{word_at, past_group, is_name_word}
 use Rattle.c_reader.specs.declared.next.Next.TheVariants.{Done, More}
 use Rattle.c_reader.specs.Repeat.{repeated}
 use Rattle.c_reader.proofs.RepeatLemmas.{repeated_done, repeated_more, repeated_stop}
 use Rattle.c_decls.specs.declared.ends.Stop.{Stop}
-use Rattle.c_decls.specs.declared.ends.Uncovered.{Uncovered}
-use Rattle.c_decls.specs.declared.ends.Within.{Within}
-use Rattle.c_decls.specs.Ends.{stops_at, closes, level_step, level_stop, level_end, case_step, case_stop, uncovered_step, uncovered_stop}
+use Rattle.c_decls.specs.Ends.{stops_at, closes, level_step, level_stop, level_end, case_step, case_stop, behind_type, behind_word, type_step}
 
 -- ---- the end at a level
 
@@ -50,6 +48,25 @@ level-on f stop i lt further e g = level-more f stop i lt further (or-false _ _ 
 
 pub ruleset level_steps = (level-at_stop, level-at_close, level-on, level-stop)
 
+-- ---- the words of a type
+
+type-step_more : (f : File) (i : ℕ) → is_name_word (word_at f i) ≡ true → type_step f i tt ≡ More tt (behind_word f i)
+type-step_more f i e = rw e refl
+
+type-step_done : (f : File) (i : ℕ) → is_name_word (word_at f i) ≡ false → type_step f i tt ≡ Done i
+type-step_done f i e = rw e refl
+
+pub type-done : (f : File) (i : ℕ) → i < length f.tokens → is_name_word (word_at f i) ≡ false → behind_type f i ≡ i
+type-done f i lt e = repeated_done (type_step f) level_stop (length f.tokens) i tt i lt (type-step_done f i e)
+
+pub type-more : (f : File) (i : ℕ) → i < length f.tokens → i < behind_word f i → is_name_word (word_at f i) ≡ true → behind_type f i ≡ behind_type f (behind_word f i)
+type-more f i lt further e = repeated_more (type_step f) level_stop (length f.tokens) i (behind_word f i) tt tt lt further (type-step_more f i e)
+
+pub type-stop : (f : File) (i : ℕ) → length f.tokens ≤ i → behind_type f i ≡ i
+type-stop f i le = repeated_stop (type_step f) level_stop (length f.tokens) i tt le
+
+pub ruleset type_steps = (type-done, type-more, type-stop)
+
 -- ---- the end of a case
 
 abbrev pub case_from : File → ℕ → ℕ → ℕ
@@ -65,20 +82,3 @@ pub case-stop : (f : File) (i waiting : ℕ) → length f.tokens ≤ i → case_
 case-stop f i waiting le = repeated_stop (case_step f) case_stop (length f.tokens) i waiting le
 
 pub ruleset case_steps = (case-done, case-more, case-stop)
-
--- ---- the end of what isn't covered
-
-abbrev pub uncovered_from : File → ℕ → Within → Uncovered
-uncovered_from f i within = repeated (uncovered_step f) uncovered_stop (length f.tokens) i within
-
-pub uncovered-done : (f : File) (i : ℕ) (within : Within) (r : Uncovered) → i < length f.tokens → uncovered_step f i within ≡ Done r → uncovered_from f i within ≡ r
-uncovered-done f i within r lt e = repeated_done (uncovered_step f) uncovered_stop (length f.tokens) i within r lt e
-
-pub uncovered-more : (f : File) (i j : ℕ) (within next : Within) → i < length f.tokens → i < j → uncovered_step f i within ≡ More next j
-    → uncovered_from f i within ≡ uncovered_from f j next
-uncovered-more f i j within next lt further e = repeated_more (uncovered_step f) uncovered_stop (length f.tokens) i j within next lt further e
-
-pub uncovered-stop : (f : File) (i : ℕ) (within : Within) → length f.tokens ≤ i → uncovered_from f i within ≡ uncovered_stop i within
-uncovered-stop f i within le = repeated_stop (uncovered_step f) uncovered_stop (length f.tokens) i within le
-
-pub ruleset uncovered_steps = (uncovered-done, uncovered-more, uncovered-stop)

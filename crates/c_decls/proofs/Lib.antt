@@ -1,4 +1,5 @@
 pub mod EndLemmas
+pub mod RecoveryLemmas
 pub mod ParameterLemmas
 pub mod DeclaringLemmas
 pub mod PlaceLemmas

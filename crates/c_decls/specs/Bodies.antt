@@ -6,6 +6,7 @@ use Rattle.c_types.specs.declared.tag.Tag.{Tag}
 use Rattle.c_types.specs.declared.tag.Layout.{Layout}
 use Rattle.c_types.specs.Layouts.{layout_of}
 use Rattle.c_words.specs.File.{File}
+use Rattle.c_words.specs.Pragma.{is_packed}
 use Rattle.c_words.specs.Words.{start_at}
 use Rattle.c_words.specs.declared.word.TagWord.{TagWord}
 use Rattle.c_scopes.specs.Seen.{Declared, tag_type, with_tags}
@@ -17,10 +18,13 @@ use Rattle.c_decls.specs.Tags.{Bodies, is_union, opened}
 use Rattle.c_decls.specs.Members.{Found, members_in}
 use Rattle.c_decls.specs.Enumerators.{enum_declared, is_plain_body}
 
--- a struct or union whose member's size isn't known, or with an attribute that changes sizes, has no layout
+-- a struct or union whose member's size isn't known, with an attribute that changes sizes, or that ends behind a `#pragma pack`,
+-- has no layout
 abbrev pub layout_in : File → ℕ → Bool → Declared → Members → Option Layout
 layout_in f i joined seen m =
-    if m.sized && is_plain_body f i then layout_of seen.tags (body_place f i) joined m.types else None
+    if is_packed f (body_place f i) then None
+    else if m.sized && is_plain_body f i then layout_of seen.tags (body_place f i) joined m.types
+    else None
 
 -- It has its members and its size from the closing brace on (6.7.2.1, 8).
 abbrev pub tag_of : File → ℕ → Bool → Found → Tag

@@ -23,17 +23,17 @@ use Rattle.c_reader.specs.Nesting.{inner}
 use Rattle.c_decls.specs.declared.ends.Stop.TheVariants as stops
 use Rattle.c_decls.specs.declared.declaring.Ending.{Ending}
 use Rattle.c_decls.specs.declared.declaring.Ending.TheVariants as endings
-use Rattle.c_decls.specs.declared.declaring.TheConstants.{MOST_NESTING}
 use Rattle.c_decls.specs.Progress.{Read, read}
-use Rattle.c_decls.specs.Ends.{level_end, uncovered_at}
-use Rattle.c_decls.specs.Hiding.{declared, hidden_bodies, hidden_by, hiding_of}
+use Rattle.c_decls.specs.Ends.{level_end}
+use Rattle.c_decls.specs.Recovery.{uncovered_at}
+use Rattle.c_decls.specs.Hiding.{declared, hidden_name, hidden_bodies, hidden_by, hiding_of}
 use Rattle.c_decls.specs.Tags.{Bodies, named_tags}
 use Rattle.c_decls.specs.Members.{declarator_in, name_of, specifiers_in, tags_within}
 use Rattle.c_decls.specs.Bodies.{body_declared}
 
 -- what bodies declare in a scope
 abbrev pub bodies_in : File → ℕ → Bodies
-bodies_in f to = body_declared f to MOST_NESTING
+bodies_in f to = body_declared f to 64
 
 -- ---- what a declarator declares
 
@@ -72,11 +72,32 @@ listed f brace seen None = seen
 listed f brace seen (Some ps) = parameters_listed f brace ps.list seen
 
 abbrev pub parameters_in : File → ℕ → Declared → Option Parameters
-parameters_in f paren seen = parameters_at f seen (inner f seen MOST_NESTING) Declaration paren
+parameters_in f paren seen = parameters_at f seen (inner f seen 64) Declaration paren
+
+-- In the list itself the names before hide earlier meanings, and have no type: what is made of one isn't known (this project's own).
+abbrev pub parameter_hidden : File → ℕ → Parameter → Declared → Declared
+parameter_hidden f paren p seen = elim p.name [
+  | None ↦ seen
+  | Some i ↦ hidden_name (bytes_at f i) (end_at f i) (end_at f (past_group f paren - 1)) seen
+]
+
+unfoldable pub parameters_hidden : File → ℕ → List Parameter → Declared → Declared
+parameters_hidden f paren [] seen = seen
+parameters_hidden f paren (p ∷ ps) seen = parameters_hidden f paren ps (parameter_hidden f paren p seen)
+
+abbrev pub hidden_in_list : File → ℕ → Declared → Option Parameters → Declared
+hidden_in_list f paren seen None = seen
+hidden_in_list f paren seen (Some ps) = parameters_hidden f paren ps.list seen
+
+abbrev pub with_hidden : File → ℕ → Declared → Declared
+with_hidden f paren seen = hidden_in_list f paren seen (parameters_in f paren seen)
+
+abbrev pub listed_with : File → ℕ → ℕ → Declared → Declared
+listed_with f paren brace seen = listed f brace seen (parameters_in f paren seen)
 
 -- parameters are seen in the body alone
 abbrev pub parameters_declared : File → ℕ → ℕ → Declared → Declared
-parameters_declared f paren brace seen = listed f brace seen (parameters_in f paren seen)
+parameters_declared f paren brace seen = listed_with f paren brace (with_hidden f paren seen)
 
 -- ---- the declarators of a declaration
 
@@ -134,14 +155,14 @@ declared_again f to s j seen (Some d) = behind_declarator f to s j d.parameters 
 
 -- the tags in the declarator are declared before its type is known
 abbrev pub again : File → ℕ → Specifiers → ℕ → Declared → Reading
-again f to s j seen = declared_again f to s j seen (declarator_in f MOST_NESTING s j seen)
+again f to s j seen = declared_again f to s j seen (declarator_in f 64 s j seen)
 
 abbrev pub with_tags_in : File → ℕ → Specifiers → ℕ → Declared → Option Declarator → Reading
 with_tags_in f to s j seen None = ended seen endings.Uncovered
 with_tags_in f to s j seen (Some d) = again f to s j (tags_within f to (bodies_in f to) j (attributes_of f s d).end seen)
 
 unfoldable pub declarator_step : File → ℕ → Specifiers → ℕ → Declared → Reading
-declarator_step f to s j seen = with_tags_in f to s j seen (declarator_in f MOST_NESTING s j seen)
+declarator_step f to s j seen = with_tags_in f to s j seen (declarator_in f 64 s j seen)
 
 abbrev pub unended : ℕ → Declared → Found
 unended i seen = read seen endings.Uncovered
@@ -157,7 +178,7 @@ behind_specifiers f to seen (Some s) =
     if is_semicolon (word_at f s.end) then read seen (endings.Behind (s.end + 1)) else declarators_declared f to s seen
 
 abbrev pub specified_again : File → ℕ → ℕ → Declared → Found
-specified_again f to i seen = behind_specifiers f to seen (specifiers_in f MOST_NESTING i seen)
+specified_again f to i seen = behind_specifiers f to seen (specifiers_in f 64 i seen)
 
 abbrev pub specified : File → ℕ → ℕ → Declared → Option Specifiers → Found
 specified f to i seen None = read seen endings.Uncovered
@@ -165,7 +186,7 @@ specified f to i seen (Some s) = specified_again f to i (named_tags f to (bodies
 
 -- The declaration at the index, in a scope that ends at the offset `to`: what is seen behind it, and where it ends.
 unfoldable pub declaration_at : File → ℕ → ℕ → Declared → Found
-declaration_at f to i seen = specified f to i seen (specifiers_in f MOST_NESTING i seen)
+declaration_at f to i seen = specified f to i seen (specifiers_in f 64 i seen)
 
 abbrev pub uncovered_found : File → ℕ → ℕ → Declared → Found
 uncovered_found f to i seen =

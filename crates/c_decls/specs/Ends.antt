@@ -1,7 +1,7 @@
 -- Where the parts of declarations and statements end.
-use Rattle.std.specs.Prelude.{◌≤◌, ◌<◌, ℕ, Bool, true, false, ◌+◌, ◌-◌, ◌==◌, ◌&&◌, ◌||◌, not, if◌then◌else◌, Option, Some, None, length}
+use Rattle.std.specs.Prelude.{◌≤◌, ◌<◌, ℕ, zero, suc, nat_lt, Bool, true, false, ◌+◌, ◌-◌, ◌==◌, ◌&&◌, ◌||◌, not, if◌then◌else◌, Option, Some, None, length}
 use Rattle.c_words.specs.File.{File}
-use Rattle.c_words.specs.Words.{word_at, past_group}
+use Rattle.c_words.specs.Words.{word_at, past_group, is_name_word}
 use Rattle.c_words.specs.declared.word.Word.{Word}
 use Rattle.c_words.specs.declared.word.Word.TheVariants as words
 use Rattle.c_words.specs.declared.word.TagWord.{TagWord}
@@ -10,13 +10,10 @@ use Rattle.c_words.specs.declared.punct.Punct.TheVariants as puncts
 use Rattle.c_reader.specs.declared.next.Next.{Next}
 use Rattle.c_reader.specs.declared.next.Next.TheVariants.{Done, More}
 use Rattle.c_reader.specs.Repeat.{repeated}
-use Rattle.c_reader.specs.Marks.{is_open_paren, is_open_brace, is_comma, is_colon, is_question, is_semicolon, is_assign}
+use Rattle.c_reader.specs.Marks.{is_close_paren, is_name, is_open_bracket, is_open_paren, is_open_brace, is_comma, is_colon, is_question, is_semicolon, is_assign}
 use Rattle.c_reader.specs.Specifiers.{tag_index, behind_tag}
 use Rattle.c_decls.specs.declared.ends.Stop.{Stop}
 use Rattle.c_decls.specs.declared.ends.Stop.TheVariants as stops
-use Rattle.c_decls.specs.declared.ends.Uncovered.{Uncovered}
-use Rattle.c_decls.specs.declared.ends.Within.{Within}
-use Rattle.c_decls.specs.declared.ends.Within.TheVariants as withins
 
 -- ---- the first token of a kind at a level of brackets
 
@@ -34,6 +31,7 @@ closes _ = false
 abbrev pub stops_at : Stop → Word → Bool
 stops_at stops.Semicolon w = is_semicolon w
 stops_at stops.Comma w = is_comma w || is_semicolon w
+stops_at stops.Assign w = is_assign w || is_semicolon w
 
 abbrev pub level_step : File → Stop → ℕ → Unit {0} → Next (Unit {0}) ℕ
 level_step f stop i u = if stops_at stop (word_at f i) || closes (word_at f i) then Done i else More tt (past_group f i)
@@ -90,78 +88,37 @@ behind_case f i = repeated (case_step f) case_stop (length f.tokens) (i + 1) 0
 abbrev pub opens_block : File → ℕ → Bool
 opens_block f i = is_open_paren (word_at f i) && is_open_brace (word_at f (i + 1))
 
--- ---- declarations that aren't covered
+-- ---- tags and bodies
 
 abbrev pub tag_kind : Word → Option TagWord
 tag_kind (words.Tag kind) = Some kind
 tag_kind _ = None
 
--- the index behind the tag that `struct`, `union` or `enum` at the index has, where its body may begin
+-- the index behind a word and the parentheses that may follow it
+abbrev pub behind_word : File → ℕ → ℕ
+behind_word f i = if is_open_paren (word_at f (i + 1)) then past_group f (i + 1) else i + 1
+
+abbrev pub type_step : File → ℕ → Unit {0} → Next (Unit {0}) ℕ
+type_step f i u = if is_name_word (word_at f i) then More tt (behind_word f i) else Done i
+
+-- the index behind the words of a type, as `typeof(x)` or `unsigned char`
+abbrev pub behind_type : File → ℕ → ℕ
+behind_type f i = repeated (type_step f) level_stop (length f.tokens) i tt
+
+-- a colon stands behind the tag of `struct`, `union` or `enum` at the index, as before the type of an enumeration of C23
+abbrev pub has_colon : File → ℕ → Bool
+has_colon f i = is_colon (word_at f (behind_tag f (tag_index f i)))
+
+-- the index of a brace behind a colon and a type, or that of the colon
+abbrev pub behind_colon : File → ℕ → ℕ
+behind_colon f colon = if is_open_brace (word_at f (behind_type f (colon + 1))) then behind_type f (colon + 1) else colon
+
+-- the index behind the tag that `struct`, `union` or `enum` at the index has, and behind a type, where its body may begin
 abbrev pub body_index : File → ℕ → ℕ
-body_index f i = behind_tag f (tag_index f i)
+body_index f i = if has_colon f i then behind_colon f (behind_tag f (tag_index f i)) else behind_tag f (tag_index f i)
 
 abbrev pub has_body : File → ℕ → Bool
 has_body f i = is_open_brace (word_at f (body_index f i))
 
 abbrev pub behind_tag_word : File → ℕ → ℕ
 behind_tag_word f i = if has_body f i then past_group f (body_index f i) else i + 1
-
-abbrev uncovered : ℕ → Option ℕ → Uncovered
-uncovered end braces = record { end = end; braces = braces }
-
-abbrev pub Ending : Type 0
-Ending = Next Within Uncovered
-
-abbrev pub is_initialiser : Within → Bool
-is_initialiser withins.Initialiser = true
-is_initialiser _ = false
-
-abbrev pub is_parameters : Within → Bool
-is_parameters withins.Parameters = true
-is_parameters _ = false
-
--- a word that begins the declaration of a parameter behind an old-style parameter list (6.9.1, 6)
-abbrev pub begins_parameter : Word → Bool
-begins_parameter (words.Basic b) = true
-begins_parameter (words.Tag kind) = true
-begins_parameter words.Qualifier = true
-begins_parameter words.Register = true
-begins_parameter _ = false
-
-abbrev pub behind_parens : Within → Word → Within
-behind_parens within next = if begins_parameter next && not (is_initialiser within) then withins.Parameters else within
-
-abbrev at_semicolon : ℕ → Within → Ending
-at_semicolon i within = if is_parameters within then More within (i + 1) else Done (uncovered (i + 1) None)
-
-abbrev pub behind_comma : Within → Within
-behind_comma within = if is_parameters within then within else withins.Declarators
-
-abbrev pub uncovered_by : File → ℕ → Within → Word → Ending
-uncovered_by f i within w =
-    if is_semicolon w then at_semicolon i within
-    else if closes w then Done (uncovered i None)
-    else if is_assign w then More withins.Initialiser (i + 1)
-    else if is_comma w then More (behind_comma within) (i + 1)
-    else if is_open_paren w then More (behind_parens within (word_at f (past_group f i))) (past_group f i)
-    else if is_open_brace w && not (is_initialiser within) then Done (uncovered (past_group f i) (Some i))
-    else More within (past_group f i)
-
-unfoldable pub uncovered_step : File → ℕ → Within → Ending
-uncovered_step f i within = elim (tag_kind (word_at f i)) [
-  | Some kind ↦ More within (behind_tag_word f i)
-  | None ↦ uncovered_by f i within (word_at f i)
-]
-
--- the part goes on, or ends, behind the index
-abbrev pub IsBehindEnding : ℕ → Next Within Uncovered → Type 0
-IsBehindEnding i (Done u) = i ≤ u.end
-IsBehindEnding i (More within j) = i < j
-
-abbrev pub uncovered_stop : ℕ → Within → Uncovered
-uncovered_stop i within = uncovered i None
-
--- Where a declaration that isn't covered ends: behind the first semicolon at its level, or behind the first braces at its level that are
--- neither a body nor part of an initialiser. The declarations of parameters behind an old-style list belong to it (this project's own).
-abbrev pub uncovered_at : File → ℕ → Uncovered
-uncovered_at f i = repeated (uncovered_step f) uncovered_stop (length f.tokens) i withins.Declarators

@@ -1,5 +1,5 @@
 -- Enumerations and their constants (C11 6.7.2.2).
-use Rattle.std.specs.Prelude.{ℕ, Bool, true, false, ◌+◌, ◌-◌, ◌==◌, ◌&&◌, if◌then◌else◌, Option, Some, None, length, List, ℤ, pos, negsuc, ◌+ℤ◌, int_le, int_lt, is_some}
+use Rattle.std.specs.Prelude.{ℕ, Bool, true, false, ◌+◌, ◌-◌, ◌==◌, ◌&&◌, not, if◌then◌else◌, Option, Some, None, length, List, ℤ, pos, negsuc, ◌+ℤ◌, int_le, int_lt, is_some}
 use Rattle.std.specs.Option.{option_and_then}
 use Rattle.c_types.specs.declared.ctype.CType.{CType, Int, Enumeration}
 use Rattle.c_words.specs.File.{File}
@@ -21,7 +21,7 @@ use Rattle.c_reader.specs.Nesting.{inner}
 use Rattle.c_decls.specs.declared.ends.Stop.TheVariants as stops
 use Rattle.c_decls.specs.declared.enumerated.Enumerated.{Enumerated}
 use Rattle.c_decls.specs.Progress.{Read, read, finding}
-use Rattle.c_decls.specs.Ends.{body_index, level_end}
+use Rattle.c_decls.specs.Ends.{body_index, has_colon, level_end}
 use Rattle.c_decls.specs.Hiding.{body_place, declared, hidden_bodies, hidden_enumerators, hidden_name}
 use Rattle.c_decls.specs.Members.{is_plain}
 
@@ -114,9 +114,13 @@ enumerators_from f to depth i r = repeated (enumerator_step f to depth) unended 
 abbrev pub enumerators_in : File → ℕ → ℕ → ℕ → Declared → Found
 enumerators_in f to depth brace seen = enumerators_from f to depth (brace + 1) (read seen none_enumerated)
 
--- Where a value isn't known, the constants have none behind the body (this project's own).
+-- all values are known, and so is the type, which C23 lets a colon behind the tag name (6.7.2.2 there)
+abbrev pub is_known : File → ℕ → Enumerated → Bool
+is_known f i e = e.known && not (has_colon f i)
+
+-- Where that isn't so, the constants have no type behind the body (this project's own).
 abbrev pub settled : File → ℕ → ℕ → Found → Declared
-settled f to i r = if r.found.known then r.seen else hidden_enumerators f (body_place f i) to (body_index f i) r.seen
+settled f to i r = if is_known f i r.found then r.seen else hidden_enumerators f (body_place f i) to (body_index f i) r.seen
 
 abbrev pub enumeration_type : Bool → Option CType
 enumeration_type known = if known then Some Enumeration else None
@@ -125,8 +129,8 @@ enumeration_type known = if known then Some Enumeration else None
 abbrev pub is_plain_body : File → ℕ → Bool
 is_plain_body f i = is_plain (both (attributes_at f (i + 1)).attributes (attributes_at f (past_group f (body_index f i))).attributes)
 
--- The enumeration whose keyword has this index is declared with its constants. It has the type only where all values are known.
+-- The enumeration whose keyword has this index is declared with its constants. It has the type only where all values and the type are known.
 abbrev pub enum_declared : File → ℕ → ℕ → ℕ → Declared → Declared
 enum_declared f to depth i seen =
     let r = enumerators_in f to depth (body_index f i) seen in
-    declared (tag_bytes f (tag_index f i)) entities.Tag (enumeration_type (r.found.known && is_plain_body f i)) (tag_place f (tag_index f i)) to (settled f to i r)
+    declared (tag_bytes f (tag_index f i)) entities.Tag (enumeration_type (is_known f i r.found && is_plain_body f i)) (tag_place f (tag_index f i)) to (settled f to i r)

@@ -20,7 +20,7 @@ use Rattle.c_reader.specs.Repeat.{repeated}
 use Rattle.c_reader.specs.Marks.{is_assign, is_name, is_comma, is_close_paren, is_open_paren, is_semicolon, is_star}
 use Rattle.c_reader.specs.Specifiers.{is_typedef_kind, tag_index, tag_bytes, tag_place}
 use Rattle.c_decls.specs.declared.ends.Stop.TheVariants as stops
-use Rattle.c_decls.specs.declared.ends.Uncovered.{Uncovered}
+use Rattle.c_decls.specs.declared.recovery.Uncovered.{Uncovered}
 use Rattle.c_decls.specs.declared.hiding.Hidden.{Hidden}
 use Rattle.c_reader.specs.Attributes.{attributes_at}
 use Rattle.c_decls.specs.Ends.{body_index, closes, has_body, level_end, opens_block, tag_kind}
@@ -143,11 +143,19 @@ hidden_at f h i seen = declared (bytes_at f i) (hidden_entity f h.first) None (s
 abbrev pub is_sealed : File → Hidden → ℕ → Bool
 is_sealed f h i = elim h.braces [ None ↦ false | Some b ↦ (b == i) && (is_close_paren (word_at f (i - 1)) || is_semicolon (word_at f (i - 1))) ]
 
--- a body hides what it declares, and so do bodies in the attributes before its tag
+-- the tag of the keyword with this index stands alone, attributes behind it aside
+abbrev pub is_lone_tag : File → ℕ → Bool
+is_lone_tag f i = is_semicolon (word_at f (attributes_at f (body_index f i)).end)
+
+abbrev pub lone_tag_hidden : File → Hidden → ℕ → Declared → Declared
+lone_tag_hidden f h i seen =
+    if is_lone_tag f i then hidden_tag_at f (start_at f h.first) h.to (tag_index f i) seen else seen
+
+-- a body hides what it declares, and so do bodies in the attributes before its tag, and a tag alone, which is declared anew
 abbrev pub tag_hidden : File → Hidden → TagWord → ℕ → Declared → Hiding
 tag_hidden f h kind i seen =
     let now = hidden_bodies f h.to (i + 1) (tag_index f i) seen in
-    if has_body f i then More (hidden_body f (start_at f h.first) h.to kind i now) (body_index f i + 1) else More now (body_index f i)
+    if has_body f i then More (hidden_body f (start_at f h.first) h.to kind i now) (body_index f i + 1) else More (lone_tag_hidden f h i now) (body_index f i)
 
 abbrev pub is_qualifier : Word → Bool
 is_qualifier words.Qualifier = true
@@ -189,7 +197,7 @@ is_followed f i = continues (word_at f (attributes_at f (behind_asm_label f i)).
 abbrev pub behind_body : File → ℕ → ℕ
 behind_body f i = if has_body f i then past_group f (body_index f i) else body_index f i
 
--- Outside brackets a typedef name is hidden where neither a name nor a star follows it: it is what the declaration declares.
+-- Outside brackets, but for parentheses around a declarator, a typedef name is hidden where neither a name nor a star follows it: it is what the declaration declares.
 abbrev pub declarator_hidden : File → Hidden → ℕ → Declared → Hiding
 declarator_hidden f h i seen =
     if was_typedef f h i seen && not (is_followed f (i + 1)) then More (hidden_at f h i seen) (i + 1) else More seen (i + 1)
@@ -199,19 +207,15 @@ abbrev pub opens_parameters : File → Hidden → ℕ → Declared → Bool
 opens_parameters f h i seen =
     if is_name (word_at f (i - 1)) then not (was_typedef f h (i - 1) seen || is_some (tag_kind (word_at f (i - 2)))) else closes (word_at f (i - 1))
 
--- the typedef name directly behind the parenthesis at the index is what the declaration declares, as `T` in `_Atomic int (T);`
-abbrev pub declares_inside : File → Hidden → ℕ → Declared → Bool
-declares_inside f h i seen =
-    is_name (word_at f (i + 1)) && was_typedef f h (i + 1) seen && not (opens_parameters f h i seen || is_followed f (past_group f i))
-
-abbrev pub parenthesis_hidden : File → Hidden → ℕ → Declared → Hiding
-parenthesis_hidden f h i seen =
-    if declares_inside f h i seen then More (hidden_at f h (i + 1) seen) (past_group f i) else More seen (past_group f i)
+-- Parentheses that open no parameters, and that neither a name nor a star follows, stand around a declarator.
+abbrev pub behind_parenthesis : File → Hidden → ℕ → Declared → ℕ
+behind_parenthesis f h i seen =
+    if opens_parameters f h i seen || is_followed f (past_group f i) then past_group f i else i + 1
 
 -- in an initialiser no name is declared
 abbrev outer_mark : File → Hidden → ℕ → Declared → Word → Hiding
 outer_mark f h i seen w =
-    if is_open_paren w then parenthesis_hidden f h i seen
+    if is_open_paren w then More seen (behind_parenthesis f h i seen)
     else if is_assign w then More seen (level_end f stops.Comma (i + 1))
     else More seen (past_group f i)
 

@@ -8,8 +8,8 @@ use Rattle.c_scopes.specs.Seen.{Declared, kind_of, visible_type}
 use Rattle.c_reader.specs.declared.next.Next.{Next}
 use Rattle.c_reader.specs.declared.next.Next.TheVariants.{Done, More}
 use Rattle.c_reader.specs.Repeat.{repeated}
-use Rattle.c_reader.specs.Marks.{is_colon, is_open_bracket, is_open_paren, is_semicolon, is_star}
-use Rattle.c_reader.specs.Attributes.{attributes_at}
+use Rattle.c_reader.specs.Marks.{is_colon, is_open_paren, is_semicolon, is_star}
+use Rattle.c_reader.specs.Attributes.{attributes_at, opens_attribute}
 use Rattle.c_reader.specs.Specifiers.{begins_specifier}
 use Rattle.c_decls.specs.declared.items.Item.{Item}
 use Rattle.c_decls.specs.declared.items.Item.TheVariants as items
@@ -72,10 +72,6 @@ item_by f seen i w = specifier_item f seen i
 
 abbrev pub item_behind : File → Declared → ℕ → Item
 item_behind f seen i = item_by f seen i (word_at f i)
-
--- two brackets open at the index: an attribute of C23 (6.7.12.1 there)
-abbrev pub opens_attribute : File → ℕ → Bool
-opens_attribute f i = is_open_bracket (word_at f i) && is_open_bracket (word_at f (i + 1))
 
 -- Such attributes aren't covered, nor is the declaration that they begin.
 abbrev pub attributed : Item → Item

@@ -1,5 +1,6 @@
 pub mod Progress
 pub mod Ends
+pub mod Recovery
 pub mod Statements
 pub mod Hiding
 pub mod Tags

@@ -1,13 +1,14 @@
 -- Where the walk through a file stands.
-use Rattle.std.specs.Prelude.{ℕ, Bool, false, ◌+◌, ◌-◌, ◌==◌, if◌then◌else◌, Option, Some, None, length, List, [], ◌∷◌, ◌++◌, take, slice_get}
+use Rattle.std.specs.Prelude.{ℕ, Bool, false, ◌+◌, ◌-◌, ◌==◌, ◌||◌, is_some, if◌then◌else◌, Option, Some, None, length, List, [], ◌∷◌, ◌++◌, take, slice_get}
 use Rattle.c_words.specs.File.{File}
-use Rattle.c_words.specs.Words.{end_at, past_group}
+use Rattle.c_words.specs.Words.{word_at, end_at, past_group}
+use Rattle.c_reader.specs.Marks.{is_name, is_open_brace, is_semicolon}
+use Rattle.c_decls.specs.declared.ends.Stop.TheVariants as stops
 use Rattle.c_decls.specs.declared.declaring.Ending.{Ending}
 use Rattle.c_decls.specs.declared.declaring.Ending.TheVariants as endings
 use Rattle.c_decls.specs.declared.place.Frame.{Frame}
 use Rattle.c_decls.specs.declared.place.Place.{Place}
-use Rattle.c_decls.specs.declared.place.TheConstants.{END_OF_FILE}
-use Rattle.c_decls.specs.Ends.{opens_block}
+use Rattle.c_decls.specs.Ends.{level_end, opens_block, tag_kind}
 
 -- no block is open, and the first item begins at the first token
 abbrev pub beginning : Place
@@ -17,9 +18,9 @@ beginning = record { frames = []; next = 0; sealed = None }
 abbrev pub last_frame : List Frame → Option Frame
 last_frame frames = slice_get frames (length frames - 1)
 
--- the offset at which the innermost scope ends
+-- the offset at which the innermost scope ends; at file level one behind every file's end
 abbrev pub scope_end : File → List Frame → ℕ
-scope_end f frames = elim (last_frame frames) [ None ↦ END_OF_FILE | Some frame ↦ end_at f frame.close ]
+scope_end f frames = elim (last_frame frames) [ None ↦ 4294967295 | Some frame ↦ end_at f frame.close ]
 
 -- the next item begins at the index
 abbrev pub at_item : ℕ → Place → Place
@@ -61,3 +62,22 @@ passing f i p = if opens_block f i then entered f (i + 1) p.next p.sealed p else
 abbrev pub is_sealed : ℕ → Option ℕ → Bool
 is_sealed i None = false
 is_sealed i (Some brace) = brace == i
+
+-- ---- braces that are read as no block
+
+-- the brace at the index has opened the innermost block
+abbrev pub is_entered : File → ℕ → Place → Bool
+is_entered f i p = elim (last_frame p.frames) [ None ↦ false | Some frame ↦ frame.close == past_group f i - 1 ]
+
+-- the body of a struct, union or enumeration
+abbrev pub follows_tag : File → ℕ → Bool
+follows_tag f i =
+    if is_name (word_at f (i - 1)) then is_some (tag_kind (word_at f (i - 2))) else is_some (tag_kind (word_at f (i - 1)))
+
+abbrev pub has_statements : File → ℕ → Bool
+has_statements f i = is_semicolon (word_at f (level_end f stops.Semicolon (i + 1)))
+
+-- Neither a block nor a body, with a semicolon at its level: what is declared in it isn't known (this project's own).
+abbrev pub is_unread : File → ℕ → Place → Bool
+is_unread f i p =
+    if is_open_brace (word_at f i) then (if is_entered f i p || follows_tag f i then false else has_statements f i) else false

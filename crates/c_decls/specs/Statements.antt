@@ -6,7 +6,7 @@ use Rattle.c_words.specs.Words.{word_at, bytes_at, past_group}
 use Rattle.c_words.specs.declared.word.Word.TheVariants as words
 use Rattle.c_words.specs.declared.punct.Punct.{Punct}
 use Rattle.c_words.specs.declared.punct.Punct.TheVariants as puncts
-use Rattle.c_reader.specs.Marks.{is_open_bracket, is_open_paren, is_colon}
+use Rattle.c_reader.specs.Marks.{is_name, is_open_brace, is_open_bracket, is_open_paren, is_colon}
 use Rattle.c_decls.specs.declared.ends.Stop.TheVariants as stops
 use Rattle.c_decls.specs.Ends.{behind_case, behind_semicolon, level_end}
 use Rattle.c_tokens.specs.declared.token.Token.{Token}
@@ -38,9 +38,19 @@ punct_end end f i _ = behind_semicolon f i
 abbrev pub lead_end : (ℕ → ℕ) → File → ℕ → ℕ
 lead_end end f i = if spelt f i (codes "do") then behind_semicolon f (end (i + 1)) else end (i + 1)
 
+-- A brace behind a name and its parentheses belongs to a statement of another dialect, as `__transaction_atomic { .. }`, which ends
+-- with that group (this project's own).
+abbrev pub named_end : File → ℕ → ℕ
+named_end f i =
+    if is_open_brace (word_at f (behind_head f i)) then past_group f (behind_head f i) else behind_semicolon f i
+
+-- where a statement ends that begins with no keyword
+abbrev pub behind_statement : File → ℕ → ℕ
+behind_statement f i = if is_name (word_at f i) then named_end f i else behind_semicolon f i
+
 -- the label of a labelled statement is a name and a colon (6.8.1)
 abbrev pub name_end : (ℕ → ℕ) → File → ℕ → ℕ
-name_end end f i = if is_colon (word_at f (i + 1)) then end (i + 2) else behind_semicolon f i
+name_end end f i = if is_colon (word_at f (i + 1)) then end (i + 2) else named_end f i
 
 abbrev pub head_end : (ℕ → ℕ) → File → ℕ → ℕ
 head_end end f i = behind_else end f (spelt f i (codes "if")) (end (behind_head f i))

@@ -17,8 +17,9 @@ use Rattle.c_scopes.specs.declared.declaration.NameSpace.TheVariants.{Tag as tag
 use Rattle.c_reader.specs.declared.next.Next.TheVariants.{Done, More}
 use Rattle.c_reader.specs.Repeat.{repeated}
 use Rattle.c_reader.specs.Marks.{is_name, is_semicolon, is_open_paren, is_open_bracket}
+use Rattle.c_reader.specs.Attributes.{attributes_at}
 use Rattle.c_reader.specs.Specifiers.{tag_index, tag_bytes, tag_place}
-use Rattle.c_decls.specs.Ends.{body_index, has_body}
+use Rattle.c_decls.specs.Ends.{behind_word, body_index, has_body}
 use Rattle.c_decls.specs.Hiding.{Hiding, declared, hidden_at_end, hidden_bodies, is_enum, unknown_tag}
 
 abbrev pub is_union : TagWord → Bool
@@ -52,10 +53,10 @@ abbrev pub is_there : Option Declaration → Bool
 is_there None = false
 is_there (Some d) = true
 
--- A tag alone declares it anew in its scope; elsewhere it is declared where it is first named (6.7.2.3, 7 and 8).
+-- A tag alone, attributes behind it aside, declares it anew in its scope; elsewhere it is declared where it is first named (6.7.2.3, 7 and 8).
 abbrev pub is_declared : File → ℕ → ℕ → Declared → Bool
 is_declared f to j seen =
-    if is_semicolon (word_at f (j + 1)) then in_scope to (tag_declared f j seen) else is_there (tag_declared f j seen)
+    if is_semicolon (word_at f (attributes_at f (j + 1)).end) then in_scope to (tag_declared f j seen) else is_there (tag_declared f j seen)
 
 -- the tag at the index is named without a body
 abbrev pub referred : File → ℕ → TagWord → ℕ → Declared → Declared
@@ -107,10 +108,6 @@ expression_passed f to bracket seen = More (hidden_bodies f to (bracket + 1) (pa
 
 abbrev pub word_passed : File → ℕ → ℕ → Declared → Hiding
 word_passed f to i seen = if is_open_paren (word_at f (i + 1)) then expression_passed f to (i + 1) seen else More seen (i + 1)
-
--- the index behind a word and the parentheses that may follow it
-abbrev pub behind_word : File → ℕ → ℕ
-behind_word f i = if is_open_paren (word_at f (i + 1)) then past_group f (i + 1) else i + 1
 
 abbrev tags_by : File → ℕ → Bodies → ℕ → Declared → Word → Hiding
 tags_by f to body i seen (words.Tag kind) = tag_found f to body kind i seen

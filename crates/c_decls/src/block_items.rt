@@ -10,14 +10,14 @@ ghost use Rattle.c_decls.specs.Walk.{attribute_begun, begun_by, declared_by, ite
 
 use crate::declaring::{Ending, declare_hidden, declare_or_hide};
 use crate::ends::{behind_case, behind_semicolon};
-use crate::for_head::begin_for;
+use crate::for_head::{begin_for, begin_head};
 use crate::hiding::hide_bodies;
-use crate::items::{Item, item_at, opens_attribute};
+use crate::items::{Item, item_at};
 use crate::place::Place;
-use crate::statements::behind_head;
+use crate::statements::behind_statement;
 use asm_core::Memory;
-use c_reader::Reader;
 use c_reader::marks::{is_colon, is_name, is_open_brace, is_semicolon};
+use c_reader::{Reader, opens_attribute};
 use c_scopes::Scopes;
 use c_words::{Source, Word};
 use std::alloc::Global;
@@ -86,7 +86,7 @@ fn begin_item(
             place,
             to,
             i,
-            behind_semicolon(source, i),
+            behind_statement(source, i),
         ),
         _ => {
             let ending = declare_by(alloc, source, scopes, to, i, item)?;
@@ -164,15 +164,7 @@ pub fn begin_in_block(
 {
     match source.word(i) {
         Word::For => begin_for(alloc, source, ends, scopes, place, to, i),
-        Word::Head => pass(
-            alloc,
-            source,
-            scopes,
-            place,
-            to,
-            i + 1,
-            behind_head(source, i),
-        ),
+        Word::Head => begin_head(alloc, source, ends, scopes, place, to, i),
         Word::Lead => {
             place.begin_item(i + 1);
             Ok(())

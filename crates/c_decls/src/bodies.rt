@@ -20,7 +20,7 @@ use c_words::{Source, TagWord};
 use std::alloc::Global;
 
 /// Where the members lie of the struct, or of the union where `joined` holds, whose keyword has this index, if their sizes are known
-/// and no attribute changes its size.
+/// and neither an attribute nor a `#pragma pack` changes its size.
 fn layout_in(
     alloc: Global,
     source: &Source<'_>,
@@ -33,11 +33,20 @@ fn layout_in(
     ensures is { IfOk result (λ l. l ≡ layout_in source.now i joined scopes.now members.now) }
     ensures sound { IfOk result (λ l. IfSome l (λ laid. IsAlignment laid.align)) }
 {
+    let place = body_place(source, i);
+    if source.is_packed(place) {
+        return Ok(None);
+    }
     if !members.sized || !is_plain_body(source, i) {
         return Ok(None);
     }
-    let types = members.types.as_slice();
-    layout(alloc, types, joined, scopes.tags(), body_place(source, i))
+    layout(
+        alloc,
+        members.types.as_slice(),
+        joined,
+        scopes.tags(),
+        place,
+    )
 }
 
 /// The struct, or the union where `joined` holds, with these members, whose keyword has this index (C11 6.7.2.1, 8).

@@ -5,9 +5,9 @@ ghost use Rattle.c_decls.specs.Progress.{read};
 ghost use Rattle.c_decls.specs.Declarations.{StandsIn, attributes_of, declaration_at, declaration_or_hidden, declared_type, entity_of, hidden_declaration, name_declared, specified_again};
 
 use crate::declarators::declare_all;
-use crate::ends::{Uncovered, uncovered_at};
 use crate::hiding::{Hidden, declare};
 use crate::members::{name_of, specifiers_in};
+use crate::recovery::{Uncovered, uncovered_at};
 use crate::tag_names::name_tags_within;
 use crate::uncovered::hide_declaration;
 use asm_core::Memory;

@@ -3,8 +3,8 @@
 ghost use Rattle.std.specs.Prelude.{◌≡◌, ◌≢◌, ◌+◌, ◌<◌, ◌≤◌, IsTrue, false, length};
 ghost use Rattle.c_words.specs.Words.{word_at};
 ghost use Rattle.c_words.specs.declared.word.Word.TheVariants.{Missing};
-ghost use Rattle.c_reader.specs.declared.next.Next.TheVariants.{Done};
-ghost use Rattle.c_decls.specs.Ends.{IsBehindCase, IsCaseWithin, IsBehindEnding, behind_comma, behind_parens, begins_parameter, is_initialiser, is_parameters, behind_case, behind_semicolon, body_index, case_step, closes, has_body, behind_tag_word, level_end, opens_block, stops_at, uncovered_at, uncovered_by, uncovered_step};
+ghost use Rattle.c_reader.specs.Specifiers.{behind_tag, tag_index};
+ghost use Rattle.c_decls.specs.Ends.{IsBehindCase, IsCaseWithin, behind_case, behind_colon, behind_semicolon, behind_tag_word, behind_type, behind_word, body_index, case_step, closes, has_body, has_colon, level_end, opens_block, stops_at};
 
 use c_reader::marks::{
     is_assign, is_colon, is_comma, is_name, is_open_brace, is_open_paren, is_question, is_semicolon,
@@ -19,26 +19,8 @@ pub enum Stop {
     Semicolon,
     /// A comma or a semicolon.
     Comma,
-}
-
-/// In which part of a declaration that isn't covered a token stands.
-#[derive(Clone, Copy)]
-pub enum Within {
-    /// Among its specifiers and declarators.
-    Declarators,
-    /// Behind a `=`.
-    Initialiser,
-    /// Among the declarations of parameters that follow an old-style parameter list.
-    Parameters,
-}
-
-/// Where a declaration that isn't covered ends.
-#[derive(Clone, Copy)]
-pub struct Uncovered {
-    /// The index behind it.
-    pub end: usize,
-    /// The index of the opening brace, where it ends at braces.
-    pub braces: Option<usize>,
+    /// A `=` or a semicolon.
+    Assign,
 }
 
 /// Whether the word is a closing bracket.
@@ -60,6 +42,7 @@ impl Stop {
         match self {
             Stop::Semicolon => is_semicolon(word),
             Stop::Comma => is_comma(word) || is_semicolon(word),
+            Stop::Assign => is_assign(word) || is_semicolon(word),
         }
     }
 }
@@ -158,10 +141,38 @@ pub fn opens_block(source: &Source<'_>, i: usize) -> bool
     is_open_paren(source.word(i)) && is_open_brace(source.word(i + 1))
 }
 
-/// The index behind the tag that `struct`, `union` or `enum` at the index has, where its body may begin.
-pub fn body_index(source: &Source<'_>, i: usize) -> usize
+/// The index behind the word at the index and the parentheses that may follow it.
+pub fn behind_word(source: &Source<'_>, i: usize) -> usize
     requires { i < 4294967296 }
-    ensures is { result ≡ body_index source.now i }
+    ensures is { result ≡ behind_word source.now i }
+    ensures further { i < result }
+{
+    if is_open_paren(source.word(i + 1)) {
+        return source.past(i + 1);
+    }
+    i + 1
+}
+
+/// The index behind the words of a type from the index on.
+#[tactic(auto, using(crate::proofs::EndLemmas::type_steps))]
+fn behind_type(source: &Source<'_>, first: usize) -> usize
+    ensures is { result ≡ behind_type source.now first }
+    ensures behind { first ≤ result }
+{
+    let mut i = first;
+    while i < source.len() {
+        if !source.word(i).is_name_token() {
+            return i;
+        }
+        i = behind_word(source, i);
+    }
+    i
+}
+
+/// The index behind the tag that `struct`, `union` or `enum` at the index may have.
+fn behind_tag(source: &Source<'_>, i: usize) -> usize
+    requires { i < 4294967296 }
+    ensures is { result ≡ behind_tag source.now (tag_index source.now i) }
     ensures behind { i < result }
 {
     let tag = attributes_at(source, i + 1).end;
@@ -170,6 +181,41 @@ pub fn body_index(source: &Source<'_>, i: usize) -> usize
     } else {
         tag
     }
+}
+
+/// Whether a colon stands behind the tag, as before the type of an enumeration of C23 (6.7.2.2 there).
+pub fn has_colon(source: &Source<'_>, i: usize) -> bool
+    requires { i < 4294967296 }
+    ensures { result ≡ has_colon source.now i }
+{
+    is_colon(source.word(behind_tag(source, i)))
+}
+
+/// The index of a brace behind the colon at the index and a type, or the index itself.
+fn behind_colon(source: &Source<'_>, colon: usize) -> usize
+    requires { colon < 4294967296 }
+    ensures is { result ≡ behind_colon source.now colon }
+    ensures behind { colon ≤ result }
+{
+    let end = behind_type(source, colon + 1);
+    if is_open_brace(source.word(end)) {
+        end
+    } else {
+        colon
+    }
+}
+
+/// The index behind the tag that `struct`, `union` or `enum` at the index has, and behind a type, where its body may begin.
+pub fn body_index(source: &Source<'_>, i: usize) -> usize
+    requires { i < 4294967296 }
+    ensures is { result ≡ body_index source.now i }
+    ensures behind { i < result }
+{
+    let end = behind_tag(source, i);
+    if !is_colon(source.word(end)) {
+        return end;
+    }
+    behind_colon(source, end)
 }
 
 /// Whether `struct`, `union` or `enum` at the index has a body.
@@ -181,21 +227,8 @@ pub fn has_body(source: &Source<'_>, i: usize) -> bool
     is_open_brace(source.word(body_index(source, i)))
 }
 
-/// One token of a declaration that isn't covered.
-#[tactic(auto, unfolding(crate::specs::Ends::uncovered_step))]
-fn uncovered_step(source: &Source<'_>, i: usize, within: Within) -> Next<Within, Uncovered>
-    requires { i < length source.now.tokens }
-    ensures is { result ≡ uncovered_step source.now i within }
-    ensures further { IsBehindEnding i result }
-{
-    match source.word(i) {
-        Word::Tag(_) => Next::More(within, behind_tag_word(source, i)),
-        _ => uncovered_by(source, i, within),
-    }
-}
-
 /// The index behind the body of `struct`, `union` or `enum` at the index, or behind the keyword where it has none.
-fn behind_tag_word(source: &Source<'_>, i: usize) -> usize
+pub fn behind_tag_word(source: &Source<'_>, i: usize) -> usize
     requires { i < 4294967296 }
     ensures is { result ≡ behind_tag_word source.now i }
     ensures behind { i < result }
@@ -204,114 +237,4 @@ fn behind_tag_word(source: &Source<'_>, i: usize) -> usize
         return source.past(body_index(source, i));
     }
     i + 1
-}
-
-/// Whether the word begins the declaration of a parameter behind an old-style parameter list (C11 6.9.1, 6).
-fn begins_parameter(word: Word) -> bool
-    ensures { result ≡ begins_parameter word }
-{
-    matches!(
-        word,
-        Word::Basic(_) | Word::Tag(_) | Word::Qualifier | Word::Register
-    )
-}
-
-impl Within {
-    fn is_initialiser(self) -> bool
-        ensures { result ≡ is_initialiser self }
-    {
-        matches!(self, Within::Initialiser)
-    }
-
-    fn is_parameters(self) -> bool
-        ensures { result ≡ is_parameters self }
-    {
-        matches!(self, Within::Parameters)
-    }
-
-    /// Behind parentheses that the word follows.
-    fn behind_parens(self, next: Word) -> Within
-        ensures { result ≡ behind_parens self next }
-    {
-        if begins_parameter(next) && !self.is_initialiser() {
-            Within::Parameters
-        } else {
-            self
-        }
-    }
-
-    fn behind_comma(self) -> Within
-        ensures { result ≡ behind_comma self }
-    {
-        if self.is_parameters() {
-            self
-        } else {
-            Within::Declarators
-        }
-    }
-}
-
-/// One token of a declaration that isn't covered, which is no `struct`, `union` or `enum`.
-fn uncovered_by(source: &Source<'_>, i: usize, within: Within) -> Next<Within, Uncovered>
-    requires { i < length source.now.tokens }
-    ensures is { result ≡ uncovered_by source.now i within (word_at source.now i) }
-    ensures further { IsBehindEnding i result }
-{
-    let word = source.word(i);
-    if is_semicolon(word) {
-        if within.is_parameters() {
-            return Next::More(within, i + 1);
-        }
-        return ended(i + 1, None);
-    }
-    if closes(word) {
-        return ended(i, None);
-    }
-    if is_assign(word) {
-        return Next::More(Within::Initialiser, i + 1);
-    }
-    if is_comma(word) {
-        return Next::More(within.behind_comma(), i + 1);
-    }
-    let past = source.past(i);
-    if is_open_paren(word) {
-        return Next::More(within.behind_parens(source.word(past)), past);
-    }
-    if is_open_brace(word) && !within.is_initialiser() {
-        return ended(past, Some(i));
-    }
-    Next::More(within, past)
-}
-
-fn ended(end: usize, braces: Option<usize>) -> Next<Within, Uncovered>
-    ensures { result ≡ Done (record { end = end; braces = braces }) }
-{
-    Next::Done(Uncovered { end, braces })
-}
-
-/// Where a declaration that isn't covered ends: behind the first semicolon at its level, or behind the first braces there that are neither a body
-/// nor part of an initialiser (this project's own).
-///
-/// The declarations of parameters behind an old-style parameter list belong to it.
-#[tactic(auto, using(crate::proofs::EndLemmas::uncovered_steps))]
-pub fn uncovered_at(source: &Source<'_>, first: usize) -> Uncovered
-    ensures is { result ≡ uncovered_at source.now first }
-    ensures behind { first ≤ result.end }
-{
-    let mut within = Within::Declarators;
-    let mut i = first;
-    while i < source.len() {
-        match uncovered_step(source, i, within) {
-            Next::Done(uncovered) => return uncovered,
-            Next::More(more, next) => {
-                within = more;
-                i = next;
-                continue;
-            }
-        }
-    }
-    Uncovered {
-        end: i,
-        braces: None,
-    }
 }

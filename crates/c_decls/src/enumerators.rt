@@ -3,9 +3,9 @@
 ghost use Rattle.std.specs.Prelude.{◌≡◌, ◌<◌, IfOk, length};
 ghost use Rattle.c_reader.specs.Reads.{IsBehind};
 ghost use Rattle.c_decls.specs.Progress.{finding, read};
-ghost use Rattle.c_decls.specs.Enumerators.{constant_declared, enum_declared, enumerated, enumeration_type, enumerator_step, enumerators_in, is_plain_body, named_at, next_enumerator, settled, written_value};
+ghost use Rattle.c_decls.specs.Enumerators.{constant_declared, enum_declared, enumerated, enumeration_type, enumerator_step, enumerators_in, is_known, is_plain_body, named_at, next_enumerator, settled, written_value};
 
-use crate::ends::{Stop, body_index, level_end};
+use crate::ends::{Stop, body_index, has_colon, level_end};
 use crate::enumerated::{Enumerated, int_value};
 use crate::hiding::{body_place, declare, hide_bodies, hide_enumerators, hide_name};
 use crate::members::is_plain;
@@ -194,7 +194,15 @@ fn read_enumerators(
     Ok(so_far.malformed())
 }
 
-/// Hides the constants of the body at the keyword with this index behind it, unless all values are known.
+/// Whether all values of the enumeration whose keyword has this index are known, and its type, which no colon names.
+fn is_known(source: &Source<'_>, i: usize, constants: Enumerated) -> bool
+    requires { i < 4294967296 }
+    ensures { result ≡ is_known source.now i constants }
+{
+    constants.known && !has_colon(source, i)
+}
+
+/// Hides the constants of the body at the keyword with this index behind it, unless they are known.
 fn settle(
     alloc: Global,
     source: &Source<'_>,
@@ -206,7 +214,7 @@ fn settle(
     requires { i < 4294967296 }
     ensures { IfOk result (λ _. scopes.new ≡ settled source.now to i (read scopes.old constants)) }
 {
-    if constants.known {
+    if is_known(source, i, constants) {
         return Ok(());
     }
     hide_enumerators(
@@ -239,7 +247,7 @@ pub fn is_plain_body(source: &Source<'_>, i: usize) -> bool
     is_plain(before.both(behind))
 }
 
-/// Declares the enumeration whose keyword has this index, with its constants. It has the type only where all values are known.
+/// Declares the enumeration whose keyword has this index, with its constants. It has the type only where all values and the type are known.
 pub fn declare_enum(
     alloc: Global,
     source: &Source<'_>,
@@ -253,7 +261,7 @@ pub fn declare_enum(
 {
     let read = read_enumerators(alloc, source, scopes, to, depth, body_index(source, i))?;
     settle(alloc, source, scopes, to, i, read)?;
-    let ctype = enumeration_type(read.known && is_plain_body(source, i));
+    let ctype = enumeration_type(is_known(source, i, read) && is_plain_body(source, i));
     let tag = attributes_at(source, i + 1).end;
     declare_at(alloc, source, scopes, tag, ctype, to)
 }

@@ -1,12 +1,13 @@
-//! The head of a `for`, whose first part may declare (C11 6.8.5).
+//! The heads of statements, whose first part may declare (C11 6.8.5; C2Y 6.8.5 for those of `if`, `while` and `switch`).
 
 ghost use Rattle.std.specs.Prelude.{◌≡◌, ◌<◌, IfOk};
 ghost use Rattle.c_decls.specs.Progress.{read};
 ghost use Rattle.c_decls.specs.Statements.{statement_ends};
-ghost use Rattle.c_decls.specs.Walk.{ending_index, first_part, for_begun, for_end};
+ghost use Rattle.c_decls.specs.Walk.{ending_index, first_part, for_begun, for_end, head_begun, may_declare_in_head};
 
 use crate::block_items::{declare_by, item_in, pass};
 use crate::declaring::Ending;
+use crate::ends::{Stop, closes, level_end};
 use crate::items::Item;
 use crate::place::Place;
 use crate::statements::behind_head;
@@ -30,7 +31,7 @@ impl Ending {
     }
 }
 
-/// The offset at which the scope of the `for` at the index ends: behind its statement (C11 6.8.5, 5).
+/// The offset at which the scope of the `for`, or of another head that declares, ends: behind its statement (C11 6.8.5, 5).
 fn for_end(source: &Source<'_>, ends: &[u32], i: usize) -> u32
     requires { ends.now ≡ statement_ends source.now 0 source.now.tokens }
     ensures { result ≡ for_end source.now i }
@@ -39,7 +40,7 @@ fn for_end(source: &Source<'_>, ends: &[u32], i: usize) -> u32
     source.end(end.saturating_sub(1))
 }
 
-/// The first part of the `for` at the index declares to the end of its statement; the others are expressions.
+/// The first part of the head at the index declares to the end of its statement; the others are expressions.
 fn begin_for_item(
     alloc: Global,
     source: &Source<'_>,
@@ -90,6 +91,39 @@ pub fn begin_for(
     if !is_open_paren(source.word(i + 1)) {
         place.begin_item(i + 1);
         return Ok(());
+    }
+    let item = item_in(source, scopes, i + 2);
+    begin_for_item(alloc, source, ends, scopes, place, to, i, item)
+}
+
+/// Whether a declaration may stand in the head of the `if`, `while` or `switch` at the index: with a semicolon or an initialiser.
+fn may_declare_in_head(source: &Source<'_>, i: usize) -> bool
+    requires { i < 4294967296 }
+    ensures { result ≡ may_declare_in_head source.now i }
+{
+    if !is_open_paren(source.word(i + 1)) {
+        return false;
+    }
+    !closes(source.word(level_end(source, Stop::Assign, i + 2)))
+}
+
+/// An `if`, a `while` or a `switch` begins at the index.
+pub fn begin_head(
+    alloc: Global,
+    source: &Source<'_>,
+    ends: &[u32],
+    scopes: &mut Scopes,
+    place: &mut Place,
+    to: u32,
+    i: usize,
+) -> Result<(), Memory>
+    requires few { i < 4294967296 }
+    requires ends { ends.now ≡ statement_ends source.now 0 source.now.tokens }
+    ensures { IfOk result (λ _. read scopes.new place.new ≡ head_begun source.now to i (read scopes.old place.old)) }
+{
+    if !may_declare_in_head(source, i) {
+        let behind = behind_head(source, i);
+        return pass(alloc, source, scopes, place, to, i + 1, behind);
     }
     let item = item_in(source, scopes, i + 2);
     begin_for_item(alloc, source, ends, scopes, place, to, i, item)

@@ -2,10 +2,10 @@
 
 ghost use Rattle.std.specs.Prelude.{◌≡◌, ◌<◌, ◌≤◌, length};
 ghost use Rattle.c_words.specs.Words.{word_at};
-ghost use Rattle.c_decls.specs.Items.{attribute_item, attributed, behind_extensions, is_extension, is_hidden, is_untyped, item_at, item_behind, item_by, item_or_attributed, may_declare, name_item, opens_attribute, declares_in_parentheses, specifier_item};
+ghost use Rattle.c_decls.specs.Items.{attribute_item, attributed, behind_extensions, is_extension, is_hidden, is_untyped, item_at, item_behind, item_by, item_or_attributed, may_declare, name_item, declares_in_parentheses, specifier_item};
 
-use c_reader::marks::{is_colon, is_open_bracket, is_open_paren, is_semicolon, is_star};
-use c_reader::{Reader, attributes_at};
+use c_reader::marks::{is_colon, is_open_paren, is_semicolon, is_star};
+use c_reader::{Reader, attributes_at, opens_attribute};
 use c_scopes::{name_kind, visible};
 use c_words::{Source, Word};
 
@@ -114,13 +114,6 @@ fn name_item(reader: &Reader<'_>, i: usize) -> Item
     } else {
         Item::Statement
     }
-}
-
-/// Whether two brackets open at the index, as at an attribute of C23 (6.7.12.1 there).
-pub fn opens_attribute(source: &Source<'_>, i: usize) -> bool
-    ensures { result ≡ opens_attribute source.now i }
-{
-    is_open_bracket(source.word(i)) && is_open_bracket(source.word(i + 1))
 }
 
 /// What begins at an attribute of C23, which isn't covered, before such an item.

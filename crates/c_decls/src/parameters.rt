@@ -1,10 +1,10 @@
 //! The parameters of a function in its body (C11 6.9.1).
 
 ghost use Rattle.std.specs.Prelude.{◌≡◌, ◌<◌, IfOk};
-ghost use Rattle.c_decls.specs.Declarations.{parameter_declared, parameters_declared, parameters_in, parameters_listed};
+ghost use Rattle.c_decls.specs.Declarations.{parameter_declared, parameter_hidden, parameters_declared, parameters_hidden, parameters_in, parameters_listed, with_hidden};
 
 use crate::declaring::MOST_NESTING;
-use crate::hiding::declare;
+use crate::hiding::{declare, hide_name};
 use asm_core::Memory;
 use c_reader::{Context, Parameter, Parameters, Reader};
 use c_scopes::{Entity, NameKind, Scopes};
@@ -61,7 +61,6 @@ fn declare_listed(
 }
 
 /// Declares the parameters in the parentheses at one index in the body whose brace has another: they are seen in the body alone.
-#[tactic(auto, using(crate::proofs::ParameterLemmas::parameter_rules))]
 pub fn declare_parameters(
     alloc: Global,
     source: &Source<'_>,
@@ -71,9 +70,7 @@ pub fn declare_parameters(
 ) -> Result<(), Memory>
     ensures { IfOk result (λ _. scopes.new ≡ parameters_declared source.now paren brace scopes.old) }
 {
-    if paren >= source.len() {
-        return Ok(());
-    }
+    hide_in_list(alloc, source, scopes, paren)?;
     match parameters_in(alloc, source, scopes, paren)? {
         Some(parameters) => declare_listed(
             alloc,
@@ -86,16 +83,68 @@ pub fn declare_parameters(
     }
 }
 
+/// Hides the parameter's name behind it in the list that opens at the index.
+fn hide_parameter(
+    alloc: Global,
+    source: &Source<'_>,
+    scopes: &mut Scopes,
+    paren: usize,
+    parameter: &Parameter,
+) -> Result<(), Memory>
+    ensures { IfOk result (λ _. scopes.new ≡ parameter_hidden source.now paren parameter.now scopes.old) }
+{
+    let Some(i) = parameter.name else {
+        return Ok(());
+    };
+    let to = source.end(source.past(paren).saturating_sub(1));
+    hide_name(alloc, scopes, source.bytes(i), source.end(i), to)
+}
+
+/// Hides the names of parameters behind them in the list that opens at the index.
+#[tactic(auto, using(crate::proofs::ParameterLemmas::hidden_steps))]
+fn hide_listed(
+    alloc: Global,
+    source: &Source<'_>,
+    scopes: &mut Scopes,
+    paren: usize,
+    parameters: &[Parameter],
+) -> Result<(), Memory>
+    ensures { IfOk result (λ _. scopes.new ≡ parameters_hidden source.now paren parameters.now scopes.old) }
+{
+    for parameter in parameters {
+        hide_parameter(alloc, source, scopes, paren, parameter)?;
+    }
+    Ok(())
+}
+
+/// Hides the names of the parameters in the parentheses at the index behind them in the list.
+fn hide_in_list(
+    alloc: Global,
+    source: &Source<'_>,
+    scopes: &mut Scopes,
+    paren: usize,
+) -> Result<(), Memory>
+    ensures { IfOk result (λ _. scopes.new ≡ with_hidden source.now paren scopes.old) }
+{
+    match parameters_in(alloc, source, scopes, paren)? {
+        Some(parameters) => hide_listed(alloc, source, scopes, paren, parameters.list.as_slice()),
+        None => Ok(()),
+    }
+}
+
 /// The parameters in the parentheses at the index.
+#[tactic(auto, using(crate::proofs::ParameterLemmas::parameter_rules))]
 fn parameters_in(
     alloc: Global,
     source: &Source<'_>,
     scopes: &Scopes,
     paren: usize,
 ) -> Result<Option<Parameters>, Memory>
-    requires { paren < 4294967296 }
     ensures { IfOk result (λ ps. ps ≡ parameters_in source.now paren scopes.now) }
 {
+    if paren >= source.len() {
+        return Ok(None);
+    }
     let reader = Reader { source, scopes };
     match reader.parameters_at(alloc, MOST_NESTING, Context::Declaration, paren) {
         Ok(parameters) => Ok(Some(parameters)),

@@ -2,12 +2,13 @@
 
 ghost use Rattle.std.specs.Prelude.{◌≡◌, ◌<◌, IfOk, length};
 ghost use Rattle.c_decls.specs.Declarations.{StandsIn};
-ghost use Rattle.c_decls.specs.Places.{at_item, beginning, block_entered, entered, is_sealed, last_frame, left, moved, passing};
+ghost use Rattle.c_decls.specs.Places.{at_item, beginning, block_entered, entered, follows_tag, has_statements, is_entered, is_sealed, is_unread, last_frame, left, moved, passing};
 
 use crate::declaring::Ending;
-use crate::ends::opens_block;
+use crate::ends::{Stop, level_end, opens_block};
 use asm_core::{Items, Memory};
-use c_words::Source;
+use c_reader::marks::{is_name, is_open_brace, is_semicolon};
+use c_words::{Source, Word};
 use std::alloc::Global;
 
 /// The offset at which the scope of a file ends.
@@ -33,6 +34,25 @@ pub struct Place {
     pub next: usize,
     /// The index of an opening brace before it, whose braces are passed over as one.
     pub sealed: Option<usize>,
+}
+
+/// Whether the brace at the index opens the body of a struct, union or enumeration.
+fn follows_tag(source: &Source<'_>, i: usize) -> bool
+    ensures { result ≡ follows_tag source.now i }
+{
+    let before = source.word(i.saturating_sub(1));
+    if is_name(before) {
+        return matches!(source.word(i.saturating_sub(2)), Word::Tag(_));
+    }
+    matches!(before, Word::Tag(_))
+}
+
+/// Whether a semicolon stands at the level behind the brace at the index.
+fn has_statements(source: &Source<'_>, i: usize) -> bool
+    requires { i < 4294967296 }
+    ensures { result ≡ has_statements source.now i }
+{
+    is_semicolon(source.word(level_end(source, Stop::Semicolon, i + 1)))
 }
 
 impl Place {
@@ -62,6 +82,30 @@ impl Place {
     {
         match self.sealed {
             Some(brace) => brace == i,
+            None => false,
+        }
+    }
+
+    /// Whether the braces that open at the index are read as no block, though statements stand in them.
+    pub fn is_unread(&self, source: &Source<'_>, i: usize) -> bool
+        requires { i < 4294967296 }
+        ensures { result ≡ is_unread source.now i self.now }
+    {
+        if !is_open_brace(source.word(i)) {
+            return false;
+        }
+        if self.is_entered(source, i) || follows_tag(source, i) {
+            return false;
+        }
+        has_statements(source, i)
+    }
+
+    /// Whether the brace at the index has opened the innermost block.
+    fn is_entered(&self, source: &Source<'_>, i: usize) -> bool
+        ensures { result ≡ is_entered source.now i self.now }
+    {
+        match self.last_frame() {
+            Some(frame) => frame.close == source.past(i).saturating_sub(1),
             None => false,
         }
     }

@@ -2,7 +2,7 @@
 
 ghost use Rattle.std.specs.Prelude.{◌≡◌, ◌<◌, ◌≤◌, length, IfOk, IfSome};
 ghost use Rattle.c_decls.specs.Progress.{going};
-ghost use Rattle.c_decls.specs.Hiding.{behind_body, declarator_hidden, declares_inside, hidden_outer_names, is_followed, opens_parameters, outer_step, parenthesis_hidden};
+ghost use Rattle.c_decls.specs.Hiding.{behind_body, behind_parenthesis, declarator_hidden, hidden_outer_names, is_followed, opens_parameters, outer_step};
 
 use crate::ends::{Stop, body_index, closes, has_body, level_end};
 use crate::hiding::Hidden;
@@ -67,34 +67,19 @@ fn opens_parameters(source: &Source<'_>, scopes: &Scopes, h: Hidden, i: usize) -
     !(was_typedef(source, scopes, h, i.saturating_sub(1)) || of_tag)
 }
 
-/// Whether the typedef name directly behind the parenthesis at the index is what the declaration declares.
-fn declares_inside(source: &Source<'_>, scopes: &Scopes, h: Hidden, i: usize) -> bool
-    requires { i < 4294967296 }
-    ensures { result ≡ declares_inside source.now h i scopes.now }
-{
-    is_name(source.word(i + 1))
-        && was_typedef(source, scopes, h, i + 1)
-        && !(opens_parameters(source, scopes, h, i) || is_followed(source, source.past(i)))
-}
-
-/// Hides the typedef name directly behind the parenthesis at the index, if the declaration declares it. The index at which to go on.
-fn hide_parenthesised(
-    alloc: Global,
-    source: &Source<'_>,
-    scopes: &mut Scopes,
-    h: Hidden,
-    i: usize,
-) -> Result<Option<usize>, Memory>
-    requires first { h.first < 4294967296 }
+/// The index behind the parenthesis at the index, where it stands around a declarator, or behind its group.
+fn behind_parenthesis(source: &Source<'_>, scopes: &Scopes, h: Hidden, i: usize) -> usize
     requires inside { i < length source.now.tokens }
     requires few { length source.now.tokens < 4294967296 }
-    ensures is { IfOk result (λ next. going scopes.new next ≡ parenthesis_hidden source.now h i scopes.old) }
-    ensures further { IfOk result (λ next. IfSome next (λ j. i < j)) }
+    ensures is { result ≡ behind_parenthesis source.now h i scopes.now }
+    ensures behind { i < result }
 {
-    if declares_inside(source, scopes, h, i) {
-        hide_at(alloc, source, scopes, h, i + 1)?;
+    let past = source.past(i);
+    if opens_parameters(source, scopes, h, i) || is_followed(source, past) {
+        past
+    } else {
+        i + 1
     }
-    Ok(Some(source.past(i)))
 }
 
 /// One token of those outside brackets, where typedef names are hidden that the declaration declares. The index at which to go on, `None`
@@ -118,7 +103,7 @@ fn outer_step(
     match source.word(i) {
         Word::Tag(_) => Ok(Some(behind_body(source, i))),
         Word::Name => hide_declarator(alloc, source, scopes, h, i),
-        Word::Punct(Punct::OpenParen) => hide_parenthesised(alloc, source, scopes, h, i),
+        Word::Punct(Punct::OpenParen) => Ok(Some(behind_parenthesis(source, scopes, h, i))),
         Word::Punct(Punct::Assign) => Ok(Some(level_end(source, Stop::Comma, i + 1))),
         _ => Ok(Some(source.past(i))),
     }

@@ -3,11 +3,13 @@
 ghost use Rattle.std.specs.Prelude.{◌≡◌, ◌+◌, ◌<◌, IfOk, IsTrue, codes, drop, length};
 ghost use Rattle.c_decls.specs.declared.ends.Stop.TheVariants.{Semicolon};
 ghost use Rattle.c_decls.specs.Ends.{behind_semicolon, level_end};
-ghost use Rattle.c_decls.specs.Statements.{behind_else, bracket_end, behind_head, end_among, head_end, lead_end, level_ends, name_end, punct_end, spelt, statement_end_by, statement_ends};
+ghost use Rattle.c_decls.specs.Statements.{behind_else, behind_statement, bracket_end, behind_head, end_among, head_end, lead_end, level_ends, name_end, punct_end, spelt, statement_end_by, statement_ends};
 
-use crate::ends::{behind_case, closes};
+use crate::ends::{self, behind_case, closes};
 use asm_core::{Items, Memory};
-use c_reader::marks::{is_colon, is_open_bracket, is_open_paren, is_semicolon};
+use c_reader::marks::{
+    is_colon, is_name, is_open_brace, is_open_bracket, is_open_paren, is_semicolon,
+};
 use c_words::{Punct, Source, Word};
 use std::alloc::Global;
 
@@ -161,7 +163,26 @@ fn name_end(source: &Source<'_>, levels: &[u32], later: &[u32], i: usize) -> usi
     if is_colon(source.word(i + 1)) {
         return end_among(i + 1, later, i + 2);
     }
+    let head = behind_head(source, i);
+    if is_open_brace(source.word(head)) {
+        return source.past(head);
+    }
     behind_semicolon(source, levels, i)
+}
+
+/// The index behind the statement at the index, which begins with no keyword. A brace behind a name and its parentheses belongs to a
+/// statement of another dialect, which ends with that group.
+pub fn behind_statement(source: &Source<'_>, i: usize) -> usize
+    requires { i < 4294967296 }
+    ensures { result ≡ behind_statement source.now i }
+{
+    if is_name(source.word(i)) {
+        let head = behind_head(source, i);
+        if is_open_brace(source.word(head)) {
+            return source.past(head);
+        }
+    }
+    ends::behind_semicolon(source, i)
 }
 
 /// Where the statement ends that begins with `if`, `while` or `switch` at the index.

@@ -9,6 +9,7 @@ ghost use Rattle.c_decls.specs.Tags.{first_named, is_declared, is_open, is_open_
 
 use crate::hiding::{declare, unknown_tag};
 use asm_core::Memory;
+use c_reader::attributes_at;
 use c_reader::marks::{is_name, is_semicolon};
 use c_scopes::{Entity, NameSpace, Scopes};
 use c_types::{CType, NO_BODY};
@@ -87,13 +88,16 @@ fn declare_first(
     }
 }
 
-/// Whether what the tag at the index names is declared already. A tag alone declares it anew in its scope (C11 6.7.2.3, 7).
+/// Whether what the tag at the index names is declared already. A tag alone, attributes behind it aside, declares it anew in its scope (C11 6.7.2.3, 7).
 fn is_declared(source: &Source<'_>, scopes: &Scopes, to: u32, tag: usize) -> bool
     requires { tag < 4294967296 }
     ensures { result ≡ is_declared source.now to tag scopes.now }
 {
     match scopes.declaration(NameSpace::Tag, source.bytes(tag), source.start(tag)) {
-        Some(declaration) => !is_semicolon(source.word(tag + 1)) || declaration.seen.to == to,
+        Some(declaration) => {
+            let behind = attributes_at(source, tag + 1).end;
+            !is_semicolon(source.word(behind)) || declaration.seen.to == to
+        }
         None => false,
     }
 }

@@ -3,11 +3,11 @@
 ghost use Rattle.std.specs.Prelude.{◌≡◌, ◌<◌, IfOk, IfSome, length};
 ghost use Rattle.c_reader.specs.declared.next.Next.TheVariants.{More};
 ghost use Rattle.c_decls.specs.Progress.{going};
-ghost use Rattle.c_decls.specs.Tags.{behind_word, expression_passed, named_tags, tag_found, tag_named, tags_step, word_passed};
+ghost use Rattle.c_decls.specs.Tags.{expression_passed, named_tags, tag_found, tag_named, tags_step, word_passed};
 ghost use Rattle.c_decls.specs.Bodies.{body_declared};
 
 use crate::bodies::declare_body;
-use crate::ends::{body_index, has_body};
+use crate::ends::{behind_word, body_index, has_body};
 use crate::hiding::hide_bodies;
 use crate::tag_declarations::refer;
 use asm_core::Memory;
@@ -96,18 +96,6 @@ fn pass_word(
         return pass_expression(alloc, source, scopes, to, i + 1);
     }
     Ok(i + 1)
-}
-
-/// The index behind the word at the index and the parentheses that may follow it.
-fn behind_word(source: &Source<'_>, i: usize) -> usize
-    requires { i < 4294967296 }
-    ensures is { result ≡ behind_word source.now i }
-    ensures further { i < result }
-{
-    if is_open_paren(source.word(i + 1)) {
-        return source.past(i + 1);
-    }
-    i + 1
 }
 
 /// One token of a part of a declaration, which ends before the index `end`.

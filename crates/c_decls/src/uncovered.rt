@@ -2,10 +2,10 @@
 
 ghost use Rattle.std.specs.Prelude.{◌≡◌, ◌+◌, ◌<◌, ◌≤◌, length, IfOk, IfSome};
 ghost use Rattle.c_decls.specs.Progress.{going};
-ghost use Rattle.c_decls.specs.Hiding.{behind_blocks, follows_star, hidden_at, hidden_by, hidden_entity, hidden_inside, hidden_names, is_qualifier, is_sealed, is_typedef_near, is_typedef_word, name_hidden, names_step, tag_hidden, was_typedef};
+ghost use Rattle.c_decls.specs.Hiding.{behind_blocks, follows_star, hidden_at, hidden_by, hidden_entity, hidden_inside, hidden_names, is_qualifier, is_sealed, is_typedef_near, is_typedef_word, lone_tag_hidden, name_hidden, names_step, tag_hidden, was_typedef};
 
 use crate::ends::{body_index, has_body, opens_block};
-use crate::hiding::{Hidden, declare, hide_bodies, hide_body};
+use crate::hiding::{Hidden, declare, hide_bodies, hide_body, hide_tag_at};
 use crate::redeclared::hide_outer_names;
 use crate::sealed::hide_sealed;
 use asm_core::Memory;
@@ -112,10 +112,30 @@ fn hide_tagged(
     hide_bodies(alloc, source, scopes, h.to, i + 1, tag)?;
     let body = body_index(source, i);
     if !has_body(source, i) {
+        hide_lone_tag(alloc, source, scopes, h, i)?;
         return Ok(Some(body));
     }
     hide_body(alloc, source, scopes, source.start(h.first), h.to, kind, i)?;
     Ok(Some(body + 1))
+}
+
+/// Hides the tag of the keyword with this index where it stands alone, attributes behind it aside.
+fn hide_lone_tag(
+    alloc: Global,
+    source: &Source<'_>,
+    scopes: &mut Scopes,
+    h: Hidden,
+    i: usize,
+) -> Result<(), Memory>
+    requires { i < 4294967296 }
+    ensures { IfOk result (λ _. scopes.new ≡ lone_tag_hidden source.now h i scopes.old) }
+{
+    let behind = attributes_at(source, body_index(source, i)).end;
+    if !is_semicolon(source.word(behind)) {
+        return Ok(());
+    }
+    let tag = attributes_at(source, i + 1).end;
+    hide_tag_at(alloc, source, scopes, source.start(h.first), h.to, tag)
 }
 
 fn is_qualifier(word: Word) -> bool

@@ -13,6 +13,7 @@ use crate::block_items::{begin_in_block, pass};
 use crate::declaring::declare_or_hide;
 use crate::ends::behind_semicolon;
 use crate::place::{END_OF_FILE, Frame, Place};
+use crate::sealed::hide_sealed;
 use crate::statements::statement_ends;
 use asm_core::Memory;
 use c_reader::marks::is_semicolon;
@@ -124,6 +125,10 @@ fn walk_step(
 {
     begin_at(alloc, source, ends, scopes, place, i)?;
     if place.is_sealed(i) {
+        return Ok(source.past(i));
+    }
+    if place.is_unread(source, i) {
+        hide_sealed(alloc, source, scopes, i)?;
         return Ok(source.past(i));
     }
     place.pass(source, i)?;

@@ -12,7 +12,6 @@ use Rattle.c_reader.specs.declared.grammar.Level.TheVariants.{Comma}
 use Rattle.c_reader.specs.declared.grammar.Typed.{Typed}
 use Rattle.c_reader.specs.Nesting.{inner}
 use Rattle.asm_core.specs.declared.operand.Operand.{Operand}
-use Rattle.c_exprs.specs.declared.reading.TheConstants.{LEVELS}
 
 abbrev pub begins_before : ℕ → Token → Bool
 begins_before offset t = nat_lt t.span.from offset
@@ -35,8 +34,9 @@ abbrev pub ending_at : File → Declared → ℕ → ℕ → Option Typed → Op
 ending_at f seen i to None = None
 ending_at f seen i to (Some x) = if end_at f (x.end - 1) == to then Some (operand_at seen (start_at f i) x) else None
 
+-- 64 levels of nesting may be read in the operand, which is one itself
 abbrev pub operand_from : File → Declared → ℕ → ℕ → Option Operand
-operand_from f seen i to = ending_at f seen i to ((inner f seen LEVELS).expression Comma i)
+operand_from f seen i to = ending_at f seen i to ((inner f seen 65).expression Comma i)
 
 -- The expression whose tokens stand in the span: its sizes, whether it is a pointer, and its number if it is a constant. None where it has no type.
 unfoldable pub operand_of : File → Declared → Span → Option Operand

@@ -15,7 +15,7 @@ use c_words::Source;
 use std::alloc::Global;
 
 /// How many levels of nesting may be read: the operand, and 64 in it (this project's own).
-pub const LEVELS: u32 = 65;
+const LEVELS: u32 = 65;
 
 /// How many tokens begin before the offset.
 fn begun_before(tokens: &[Token], offset: u32) -> usize

@@ -1,7 +1,7 @@
 use Rattle.std.proofs.Common.{◌≡◌, ◌≤◌, ◌-◌, length}
-use Rattle.c_decls.specs.Ends.{uncovered_at}
-use Rattle.c_decls.proofs.EndLemmas.{uncovered_from}
-use Rattle.c_decls.proofs.ends.uncovered_at.Given as goal
+use Rattle.c_decls.specs.Recovery.{uncovered_at}
+use Rattle.c_decls.proofs.RecoveryLemmas.{uncovered_from}
+use Rattle.c_decls.proofs.recovery.uncovered_at.Given as goal
 
 -- what is left gives what the whole gives
 abbrev pub invariant-loop-i : goal.invariant-loop-i
