@@ -10,7 +10,7 @@ use Rattle.c_tokens.specs.Ends.{name_end, number_end, literal_end, comment_end}
 use Rattle.c_tokens.specs.Puncts.{punctuator_len}
 use Rattle.c_tokens.specs.Items.{item_at, piece_at, literal_or_word, literal_at, closed_literal, word_at, punctuator_item, closed_comment, begins_number, opening_at, opens_line}
 use Rattle.c_tokens.specs.Spelling.{spells}
-use Rattle.c_tokens.proofs.CutLemmas.{ItemLaw, item_law}
+use Rattle.c_tokens.proofs.ItemLemmas.{ItemLaw, item_law}
 use Rattle.c_tokens.proofs.EndSteps.{take_while-le}
 use Rattle.c_tokens.proofs.PunctLemmas.{punctuator_fits}
 
@@ -120,7 +120,7 @@ piece_further text i e k lt is =
       | inl further ↦ further
       | inr back ↦
           let none : e - i ≡ 0 = omega arith in
-          let nothing : spells k [] ≡ true = rw none at law.spelt in
+          let nothing : spells k [] ≡ true = rw none at law.token.spelt in
           let no = nothing_spelt k in
           absurd (let f : false ≡ true = sym no ∙ nothing in cc)
     ]
