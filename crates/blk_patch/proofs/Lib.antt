@@ -1,6 +1,10 @@
+pub mod EditLaws
+pub mod Examples
 pub mod FindingLaws
+pub mod FormLaws
 pub mod InterfaceLaws
 pub mod LetterLaws
+pub mod OrderLaws
 pub mod ReachedLaws
 pub mod RoundLaws
 pub mod SmallLaws

@@ -1,3 +1,6 @@
+pub mod EditForms
+pub mod EditOrder
+pub mod Edits
 pub mod Items
 pub mod Rounds
 pub mod Suggested
