@@ -104,7 +104,8 @@ module _ (text : List ℕ) (ts : List Token) where
         closer_open text ts k lt a,
         entry,
         shifted k 0 (0 + 1) s.stack
-            (λ j. let sum : 0 + 1 + j ≡ 0 + j + 1 = omega arith in rw sum (left_open text ts (0 + j) k lt a)) s.are_open,
+            (λ j. let sum : 0 + 1 + j ≡ 0 + j + 1 = omega arith in
+            rw sum (left_open text ts (0 + j) k lt a)) s.are_open,
       );
       each = λ p c low high is. elim (cases_lt p k) [
         | inl less ↦ inr (s.each p c less (omega (arith, high)) is)
