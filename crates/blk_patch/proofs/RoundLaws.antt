@@ -316,3 +316,7 @@ module _ (s : Statement) (i : Interface) (is : IsInterface i) (stated : IsInterf
       let few = reached_few (items ++ x ∷ []) reached in
       let long = length-append items (x ∷ []) in
       omega (arith, few, long)
+
+  -- no item is added twice
+  pub reached_distinct : (items : List Item) → IsReached s i items → IsDistinct eqb (numbers items)
+  reached_distinct items reached = (numbered items reached).distinct

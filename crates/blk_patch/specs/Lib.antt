@@ -2,5 +2,9 @@ pub mod EditForms
 pub mod EditOrder
 pub mod Edits
 pub mod Items
+pub mod Least
+pub mod Only
 pub mod Rounds
 pub mod Suggested
+pub mod Suited
+pub mod Tighter
