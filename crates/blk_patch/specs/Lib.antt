@@ -6,5 +6,4 @@ pub mod Least
 pub mod Only
 pub mod Rounds
 pub mod Suggested
-pub mod Suited
 pub mod Tighter
