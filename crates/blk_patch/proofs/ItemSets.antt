@@ -6,7 +6,7 @@ use Rattle.std.proofs.lemmas.Bool.{eq-eqb, eqb-true, or_cases, or_left, or_right
 use Rattle.std.proofs.lemmas.List.{map-append}
 use Rattle.std.proofs.lemmas.List.Folds.{list_any-append}
 use Rattle.blk_patch.specs.Items.{has, item_number}
-use Rattle.blk_patch.specs.Least.{AreWithin}
+use Rattle.blk_patch.specs.Least.{AreWithin, AreDistinct}
 use Rattle.blk_patch.specs.declared.item.Item.{Item}
 
 pub within_itself : (items : List Item) → AreWithin items items
@@ -96,10 +96,6 @@ pushed_within a y items within there x h = elim (joined_parts a (y ∷ []) x h) 
 ]
 
 -- ---- none stands twice
-
--- no two of the items are the same
-abbrev pub AreDistinct : List Item → Type 0
-AreDistinct items = IsDistinct eqb (map item_number items)
 
 module _ (P : ℕ → Type 0) where
   all_others : (a : List ℕ) (n : ℕ) (b : List ℕ) → AllByRecursion P (a ++ n ∷ b) → AllByRecursion P (a ++ b)

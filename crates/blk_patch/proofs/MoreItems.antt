@@ -1,9 +1,7 @@
 -- What differs between what a statement tells the compiler with some items and with more of them: operand by operand
 -- it allows less, has early marks and is read where it was, and more is clobbered.
-use Rattle.std.proofs.Common.{◌≡◌, ◌⊎◌, inl, inr, ℕ, zero, suc, ◌+◌, ◌^◌, ◌<◌, ◌==◌, ◌&&◌, ◌||◌, max, min, not, List, [], ◌∷◌, length, map, fold, Bool, true, false, IsTrue, Option, None, Some, bit_and, bit_or, slice_get, refl, sym, ap, subst, ◌∙◌, arith, if◌then◌else◌}
-use Rattle.std.specs.Int.{bit_at}
-use Rattle.std.proofs.lemmas.Bool.{cases_eq, eqb-true}
-use Rattle.std.proofs.lemmas.Nat.Bits.{bit_at_and, bit_at_or, bit_at-lt, bit_at-zero}
+use Rattle.std.proofs.Common.{◌≡◌, ℕ, zero, suc, ◌+◌, ◌^◌, ◌==◌, ◌&&◌, ◌||◌, not, List, [], ◌∷◌, length, map, fold, Bool, true, false, IsTrue, Option, None, Some, bit_and, bit_or, slice_get, refl, sym, ap, subst, ◌∙◌, if◌then◌else◌}
+use Rattle.std.proofs.lemmas.Bool.{eqb-true}
 use Rattle.asm_core.specs.Reg.{IsIn, reg_number}
 use Rattle.asm_core.specs.Placement.{is_input, is_output}
 use Rattle.asm_core.specs.declared.reg.Reg.{Reg}
@@ -15,6 +13,7 @@ use Rattle.asm_core.specs.declared.interface.Interface.{Interface}
 use Rattle.blk_patch.specs.Items.{has, role_with, alternative_with, operand_with, operands_with, clobber_bit, clobbers_with, registers, with_items}
 use Rattle.blk_patch.specs.Least.{AreWithin}
 use Rattle.blk_patch.specs.declared.item.Item.{Item}
+use Rattle.blk_patch.proofs.BitParts.{IsPart, in_first, or_part, if_part}
 use Rattle.blk_patch.proofs.ItemSets.{none_within}
 use Rattle.blk_patch.proofs.WithLaws.{output_with}
 use Rattle.blk_patch.proofs.WithNone.{with_none}
@@ -87,40 +86,6 @@ pub record IsMore (old new : Interface) : Type 0 where
   pub cc : IsTrue old.cc → IsTrue new.cc
   pub memory : IsTrue old.memory → IsTrue new.memory
 
--- ---- bits
-
-least_one : (a b : ℕ) → a < 2 → min a b ≡ 1 → a ≡ 1
-least_one a b lt e = omega (arith, lt, e)
-
-one_of : (a b : ℕ) → a < 2 → b < 2 → max a b ≡ 1 → (a ≡ 1) ⊎ (b ≡ 1)
-one_of a b la lb e = elim (cases_eq a 1) [ inl same ↦ inl same | inr other ↦ inr (omega (arith, la, lb, e, other)) ]
-
-left_one : (a b : ℕ) → b < 2 → a ≡ 1 → max a b ≡ 1
-left_one a b lt e = omega (arith, lt, e)
-
-right_one : (a b : ℕ) → a < 2 → b ≡ 1 → max a b ≡ 1
-right_one a b lt e = omega (arith, lt, e)
-
--- each bit of the first is one of the second
-abbrev IsPart : ℕ → ℕ → Type 0
-IsPart a b = (k : ℕ) → bit_at a k ≡ 1 → bit_at b k ≡ 1
-
-in_first : (a b k : ℕ) → bit_at (bit_and a b) k ≡ 1 → bit_at a k ≡ 1
-in_first a b k e = least_one (bit_at a k) (bit_at b k) (bit_at-lt a k) (sym (bit_at_and a b k) ∙ e)
-
-or_part : (a b c d : ℕ) → IsPart a c → IsPart b d → IsPart (bit_or a b) (bit_or c d)
-or_part a b c d left right k e =
-    bit_at_or c d k ∙ by (one_of (bit_at a k) (bit_at b k) (bit_at-lt a k) (bit_at-lt b k) (sym (bit_at_or a b k) ∙ e))
-  where
-    by : (bit_at a k ≡ 1) ⊎ (bit_at b k ≡ 1) → max (bit_at c k) (bit_at d k) ≡ 1
-    by (inl h) = left_one (bit_at c k) (bit_at d k) (bit_at-lt d k) (left k h)
-    by (inr h) = right_one (bit_at c k) (bit_at d k) (bit_at-lt c k) (right k h)
-
-if_part : (a b : Bool) (n : ℕ) → (a ≡ true → b ≡ true) → IsPart (if a then n else 0) (if b then n else 0)
-if_part true true n up k e = e
-if_part true false n up k e = let wrong : false ≡ true = up refl in cc
-if_part false b n up k e = let wrong : 0 ≡ 1 = sym (bit_at-zero k) ∙ e in absurd (omega (arith, wrong))
-
 -- ---- with more items
 
 input_up : (a b : Bool) → (a ≡ true → b ≡ true) → is_input (if a then Role.InOut else Role.Out) ≡ true
@@ -163,7 +128,7 @@ fewer_letters false true pair regs up h = nothing_left pair regs.0 h
 fewer_letters false false pair regs up h = h
 
 module _ (some items : List Item) (within : AreWithin some items) where
-  input_more : (k : ℕ) (role : Role) → is_input (role_with some k role) ≡ true
+  pub input_more : (k : ℕ) (role : Role) → is_input (role_with some k role) ≡ true
       → is_input (role_with items k role) ≡ true
   input_more k Role.Out h = input_up (has some (Item.Plus k)) (has items (Item.Plus k)) (within (Item.Plus k)) h
   input_more k Role.InOut h = refl
@@ -206,7 +171,7 @@ module _ (some items : List Item) (within : AreWithin some items) where
   operands_more k [] = tt
   operands_more k (o ∷ os) = (operand_more k o, operands_more (k + 1) os)
 
-  bits_more : (rs : List Reg) (a b : ℕ) → IsPart a b
+  pub bits_more : (rs : List Reg) (a b : ℕ) → IsPart a b
       → IsPart (fold (λ bits r. bit_or bits (clobber_bit some r)) a rs)
       (fold (λ bits r. bit_or bits (clobber_bit items r)) b rs)
   bits_more [] a b part = part

@@ -235,7 +235,7 @@ module _ (items : List Item) (i : Interface) where
             (option_map (operand_with items k)) e in rw (e, e2) refl
         by (Some o) e = in_alternative o e (slice_get o.alts s.alternative) refl
 
-    numbers_same : numbers_in patched ≡ numbers_in i
+    pub numbers_same : numbers_in patched ≡ numbers_in i
     unfolding with_items
     numbers_same = count_same (operands_with items 0 i.operands) i.operands 0 (operands_long items 0 i.operands)
 
@@ -255,7 +255,7 @@ module _ (items : List Item) (i : Interface) where
             ∙ unread_before items k o.role (sym (input_there patched k (operand_with items k o)
             (with_at items i k ∙ ap (option_map (operand_with items k)) e)) ∙ h)
 
-    size_same : (k : ℕ) → size_at patched k ≡ size_at i k
+    pub size_same : (k : ℕ) → size_at patched k ≡ size_at i k
     size_same k = by (slice_get i.operands k) refl
       where
         by : (found : Option OperandIface) → slice_get i.operands k ≡ found → size_at patched k ≡ size_at i k
