@@ -1,10 +1,17 @@
+pub mod EditLaws
+pub mod Examples
 pub mod FindingLaws
+pub mod FormLaws
 pub mod InterfaceLaws
 pub mod LetterLaws
+pub mod OnlyLaws
+pub mod OrderLaws
 pub mod ReachedLaws
 pub mod RoundLaws
 pub mod SmallLaws
 pub mod ThinLaws
+pub mod ThinnedLaws
 pub mod VerdictLaws
 pub mod WithLaws
+pub mod WithNone
 pub mod WithStated

@@ -1,2 +1,3 @@
+pub mod PatchReport
 pub mod Place
 pub mod Report

@@ -70,7 +70,8 @@ fn append_verdict(
     }
 }
 
-fn append_ok(lines: &mut String, place: Place<'_>) -> Result<(), Memory>
+/// Appends the line of a statement that is accepted as it stands.
+pub fn append_ok(lines: &mut String, place: Place<'_>) -> Result<(), Memory>
     ensures { OnOk result (string_bytes lines.new ≡ string_bytes lines.old
         ++ ok_line (beginning place.entry)) }
 {
@@ -101,7 +102,7 @@ fn append_finding(lines: &mut String, place: Place<'_>, finding: &Finding) -> Re
 }
 
 /// Appends the line of a statement at an offset that is outside the tables.
-fn append_mark(
+pub fn append_mark(
     lines: &mut String,
     places: &Places<'_>,
     offset: u32,
