@@ -24,14 +24,14 @@ wider n m (Ok ts) more le = omega (arith, le)
 wider n m (Err e) more le = tt
 
 -- what the item at an offset leads to
-abbrev led_to : List ℕ → ℕ → List ℕ → Item → Result (List Token) TokenEnd
+abbrev pub led_to : List ℕ → ℕ → List ℕ → Item → Result (List Token) TokenEnd
 led_to text i bs (items.White e) = tokens_from text e (i + 1) bs
 led_to text i bs (items.Piece kind e) = with_first (token kind i e) (tokens_from text e (i + 1) bs)
 led_to text i bs items.OpenString = Err (ends.OpenString i)
 led_to text i bs items.OpenComment = Err (ends.OpenComment i)
 led_to text i bs items.BadByte = Err (ends.BadByte i)
 
-led_step : (text : List ℕ) (i until b : ℕ) (bs : List ℕ) → tokens_from text until i (b ∷ bs) ≡ (if nat_lt i until then tokens_from text until (i + 1) bs else led_to text i bs (item_at text i))
+pub led_step : (text : List ℕ) (i until b : ℕ) (bs : List ℕ) → tokens_from text until i (b ∷ bs) ≡ (if nat_lt i until then tokens_from text until (i + 1) bs else led_to text i bs (item_at text i))
 unfolding tokens_from
 led_step text i until b bs = elim (item_at text i) as (λ v. (if nat_lt i until then tokens_from text until (i + 1) bs else elim v [
   | items.White e ↦ tokens_from text e (i + 1) bs

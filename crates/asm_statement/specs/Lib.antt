@@ -8,3 +8,4 @@ pub mod Ends
 pub mod Operands
 pub mod Parts
 pub mod Statements
+pub mod Laws

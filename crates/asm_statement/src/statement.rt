@@ -3,6 +3,7 @@
 ghost use Rattle.std.specs.Prelude.{◌≡◌, ◌<◌, ◌≤◌, Ok, drop, length, IfOk, All};
 ghost use Rattle.asm_core.specs.Parts.{IsBody};
 ghost use Rattle.c_tokens.specs.Tokens.{tokens_of};
+ghost use Rattle.asm_statement.specs.Laws.{AreAll, AreNested, IsRising, edit_offsets, offsets_of, StandApart};
 ghost use Rattle.asm_statement.specs.Statements.{behind_words, close_of, last_of, is_nested, body_of, statement_at, first_of, statements_from, statements_of};
 
 use crate::beginning::{Beginning, beginnings};
@@ -147,7 +148,18 @@ pub fn statements(alloc: Global, t: &Tokens, text: &[u8]) -> Result<Items<Statem
     requires short { length text.now < 4294967295 }
     // Exactly the definition's statements, unless memory runs out.
     ensures is { IfOk result (λ list. list ≡ statements_of text.now t.now.list) }
+    // At most 30 operands, a `+` output counted twice.
     ensures parts { IfOk result (All (λ (s : Statement). IsBody s.body)) }
+    // Each keyword begins one of them or stands where none may begin, and each begins with such a keyword.
+    ensures keywords { IfOk result (AreAll text.now t.now.list) }
+    // They begin one behind the other,
+    ensures order { IfOk result (λ list. IsRising 0 (offsets_of list) (length text.now)) }
+    // of each two the later stands behind the earlier or inside it,
+    ensures nested { IfOk result AreNested }
+    // and those with parts stand apart, their parts in order inside them.
+    ensures apart { IfOk result (λ list. StandApart 0 list (length text.now)) }
+    // So the places at which they may be edited go upwards.
+    ensures edits { IfOk result (λ list. IsRising 0 (edit_offsets list) (length text.now)) }
 {
     read_statements(alloc, t, text)
 }

@@ -33,20 +33,20 @@ use Rattle.blk_patch.proofs.WithLaws.{with_long}
 -- ---- options
 
 module _ {A : Type 0} where
-  some_is : (x y : A) → Some x ≡ Some y → x ≡ y
+  pub some_is : (x y : A) → Some x ≡ Some y → x ≡ y
   some_is x y e = cc
 
-  if_some : (b : Bool) (y x : A) → (if b then Some y else None) ≡ Some x → (b ≡ true) × (y ≡ x)
+  pub if_some : (b : Bool) (y x : A) → (if b then Some y else None) ≡ Some x → (b ≡ true) × (y ≡ x)
   if_some true y x e = (refl, some_is y x e)
   if_some false y x e = cc
 
-either : (a b : Option Item) (x : Item) → or_item a b ≡ Some x → (a ≡ Some x) ⊎ (b ≡ Some x)
+pub either : (a b : Option Item) (x : Item) → or_item a b ≡ Some x → (a ≡ Some x) ⊎ (b ≡ Some x)
 either None b x e = inr e
 either (Some y) b x e = inl e
 
 -- ---- the numbers of items
 
-register_few : (r : Reg) → reg_number r < 7
+pub register_few : (r : Reg) → reg_number r < 7
 register_few Eax = omega arith
 register_few Ebx = omega arith
 register_few Ecx = omega arith
@@ -55,7 +55,7 @@ register_few Esi = omega arith
 register_few Edi = omega arith
 register_few Ebp = omega arith
 
-abbrev IsBelow : Item → Type 0
+abbrev pub IsBelow : Item → Type 0
 IsBelow x = item_number x < 99
 
 register_below : (r : Reg) → IsBelow (Item.Clobber r)
@@ -165,9 +165,12 @@ module _ (body : Body) (few : HasFew body) (w : Interface) (small : length w.ope
 
 -- ---- new items
 
-record IsNew (items : List Item) (x : Item) : Type 0 where
-  fresh : has items x ≡ false
-  below : IsBelow x
+-- the item of some finding, which isn't there yet
+pub record IsNew (body : Body) (w : Interface) (items : List Item) (x : Item) : Type 0 where
+  pub finding : Finding
+  pub is_its : item_of body w finding ≡ Some x
+  pub fresh : has items x ≡ false
+  pub below : IsBelow x
 
 unless_new : (items : List Item) (o : Option Item) (x : Item) → unless_there items o ≡ Some x
     → (o ≡ Some x) × (has items x ≡ false)
@@ -197,18 +200,18 @@ one_of_both (Some (Item.Plus k)) c x e = inl e
 one_of_both (Some (Item.Byte k)) c x e = inl e
 
 module _ (body : Body) (few : HasFew body) (w : Interface) (small : length w.operands ≤ 30) (items : List Item) where
-  new_is : (f : Finding) (x : Item) → new_item body w items f ≡ Some x → IsNew items x
+  new_is : (f : Finding) (x : Item) → new_item body w items f ≡ Some x → IsNew body w items x
   new_is f x e =
       let is = unless_new items (item_of body w f) x e in
-      record { fresh = is.1; below = item_below body few w small f x is.0 }
+      record { finding = f; is_its = is.0; fresh = is.1; below = item_below body few w small f x is.0 }
 
-  first_is : (fs : List Finding) (x : Item) → first_new body w items fs ≡ Some x → IsNew items x
+  first_is : (fs : List Finding) (x : Item) → first_new body w items fs ≡ Some x → IsNew body w items x
   unfolding first_new
   first_is [] x e = cc
   first_is (f ∷ fs) x e = elim (either (new_item body w items f)
       (first_new body w items fs) x e) [ inl a ↦ new_is f x a | inr b ↦ first_is fs x b ]
 
-  clobber_is : (fs : List Finding) (x : Item) → first_clobber body w items fs ≡ Some x → IsNew items x
+  clobber_is : (fs : List Finding) (x : Item) → first_clobber body w items fs ≡ Some x → IsNew body w items x
   unfolding first_clobber
   clobber_is [] x e = cc
   clobber_is (f ∷ fs) x e = elim (either (if_clobber (new_item body w items f)) (first_clobber body w items fs) x e) [
@@ -216,7 +219,7 @@ module _ (body : Body) (few : HasFew body) (w : Interface) (small : length w.ope
     | inr b ↦ clobber_is fs x b
   ]
 
-  next_is : (fs : List Finding) (x : Item) → next_item body w items fs ≡ Some x → IsNew items x
+  next_is : (fs : List Finding) (x : Item) → next_item body w items fs ≡ Some x → IsNew body w items x
   next_is fs x e = elim (one_of_both (first_new body w items fs)
       (first_clobber body w items fs) x e) [ inl a ↦ first_is fs x a | inr b ↦ clobber_is fs x b ]
 
@@ -224,7 +227,7 @@ module _ (body : Body) (few : HasFew body) (w : Interface) (small : length w.ope
   unless_full true o x e = cc
   unless_full false o x e = e
 
-  round_is : (v : Verdict) (x : Item) → next_by body w items v ≡ Some x → IsNew items x
+  round_is : (v : Verdict) (x : Item) → next_by body w items v ≡ Some x → IsNew body w items x
   round_is (Verdict.Ok proof) x e = cc
   round_is (Verdict.Broken fs) x e = next_is fs x (unless_full (is_without_room items fs)
       (next_item body w items fs) x e)
@@ -269,13 +272,14 @@ one_below q n lt e = by (eqb q n) refl
     by true h = let same = eqb-true q n h in omega (arith, same, lt)
     by false h = let wrong : false ≡ true = rw h at e in cc
 
-one_more : (items : List Item) (x : Item) → AreNumbered items → IsNew items x → AreNumbered (items ++ x ∷ [])
-one_more items x are new =
+one_more : (items : List Item) (x : Item) → AreNumbered items → has items x ≡ false → IsBelow x
+    → AreNumbered (items ++ x ∷ [])
+one_more items x are fresh low =
     let whole : numbers (items ++ x ∷ []) ≡ numbers items ++ item_number x ∷ [] = map-append item_number items
     (x ∷ []) in
     record {
       distinct = subst (IsDistinct eqb) (sym whole) (IsDistinct-push numbers_equal (numbers items)
-          (item_number x) are.distinct (is_there items x ∙ new.fresh));
+          (item_number x) are.distinct (is_there items x ∙ fresh));
       below = λ q e. parts q (list_any (eqb q) (numbers items)) refl
           (sym (list_any-append (eqb q) (numbers items) (item_number x ∷ [])) ∙ sym (ap (list_any (eqb q)) whole) ∙ e);
     }
@@ -283,7 +287,7 @@ one_more items x are new =
     parts : (q : ℕ) (b : Bool) → list_any (eqb q) (numbers items) ≡ b
         → (list_any (eqb q) (numbers items) || list_any (eqb q) (item_number x ∷ [])) ≡ true → q < 99
     parts q true h e = are.below q h
-    parts q false h e = one_below q (item_number x) new.below (rw h at e)
+    parts q false h e = one_below q (item_number x) low (rw h at e)
 
 module _ (s : Statement) (i : Interface) (is : IsInterface i) (stated : IsInterfaceOf i s) where
   parts_few : HasFew s.body
@@ -296,12 +300,18 @@ module _ (s : Statement) (i : Interface) (is : IsInterface i) (stated : IsInterf
       parts_same : (a b : Parts) → Body.Parts a ≡ Body.Parts b → a ≡ b
       parts_same a b e = cc
 
+  -- the items that are added are findings' items
+  pub added_new : (before : List Item) (v : Verdict) (x : Item) → next_by s.body (with_items before i) before v ≡ Some x
+      → IsNew s.body (with_items before i) before x
+  added_new before v x next =
+      round_is s.body parts_few (with_items before i)
+      (subst (λ n. n ≤ 30) (sym (with_long before i)) is.few) before v x next
+
   numbered : (items : List Item) → IsReached s i items → AreNumbered items
   numbered items IsReached.begins = record { distinct = none_distinct; below = λ q e. cc }
   numbered items (IsReached.adds before v x reached verdict next) =
-      one_more before x (numbered before reached)
-      (round_is s.body parts_few (with_items before i) (subst (λ n. n ≤ 30)
-      (sym (with_long before i)) is.few) before v x next)
+      let new = added_new before v x next in
+      one_more before x (numbered before reached) new.fresh new.below
 
   pub reached_few : (items : List Item) → IsReached s i items → length items ≤ 99
   reached_few items reached =
@@ -316,3 +326,7 @@ module _ (s : Statement) (i : Interface) (is : IsInterface i) (stated : IsInterf
       let few = reached_few (items ++ x ∷ []) reached in
       let long = length-append items (x ∷ []) in
       omega (arith, few, long)
+
+  -- no item is added twice
+  pub reached_distinct : (items : List Item) → IsReached s i items → IsDistinct eqb (numbers items)
+  reached_distinct items reached = (numbered items reached).distinct

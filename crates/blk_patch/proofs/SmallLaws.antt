@@ -22,7 +22,7 @@ use Rattle.blk_patch.proofs.WithLaws.{operands_long, with_at, unread_before}
 -- ---- members
 
 -- each member of the first is one of the second
-abbrev IsWithin : {A : Type 0} → List A → List A → Type 0
+abbrev pub IsWithin : {A : Type 0} → List A → List A → Type 0
 IsWithin {A} xs ys = (x : A) → IsMember x xs → IsMember x ys
 
 module _ {A : Type 0} where
@@ -31,7 +31,7 @@ module _ {A : Type 0} where
   in_front (z ∷ xs) ys x (inl e) = inl e
   in_front (z ∷ xs) ys x (inr m) = inr (in_front xs ys x m)
 
-  in_back : (xs ys : List A) (x : A) → IsMember x ys → IsMember x (xs ++ ys)
+  pub in_back : (xs ys : List A) (x : A) → IsMember x ys → IsMember x (xs ++ ys)
   in_back [] ys x m = m
   in_back (z ∷ xs) ys x m = inr (in_back xs ys x m)
 
@@ -47,7 +47,7 @@ module _ {A B : Type 0} where
   into_flat f (y ∷ xs) x z (inl e) h = in_front (f y) (flat_map f xs) z (subst (λ a. IsMember z (f a)) e h)
   into_flat f (y ∷ xs) x z (inr m) h = in_back (f y) (flat_map f xs) z (into_flat f xs x z m h)
 
-  flat_within : (f g : A → List B) → ((x : A) → IsWithin (f x) (g x)) → (xs ys : List A) → IsWithin xs ys
+  pub flat_within : (f g : A → List B) → ((x : A) → IsWithin (f x) (g x)) → (xs ys : List A) → IsWithin xs ys
       → IsWithin (flat_map f xs) (flat_map g ys)
   flat_within f g each [] ys within z m = absurd m
   flat_within f g each (x ∷ xs) ys within z m = elim (parted (f x) (flat_map f xs) z m) [
@@ -60,12 +60,12 @@ module _ {A B : Type 0} where
   into_map f (y ∷ ys) x z e (inl same) = inl (e ∙ ap f same)
   into_map f (y ∷ ys) x z e (inr m) = inr (into_map f ys x z e m)
 
-  map_within : (f : A → B) (xs ys : List A) → IsWithin xs ys → IsWithin (map f xs) (map f ys)
+  pub map_within : (f : A → B) (xs ys : List A) → IsWithin xs ys → IsWithin (map f xs) (map f ys)
   map_within f [] ys within z m = absurd m
   map_within f (x ∷ xs) ys within z (inl e) = into_map f ys x z e (within x (inl refl))
   map_within f (x ∷ xs) ys within z (inr m) = map_within f xs ys (λ y n. within y (inr n)) z m
 
-  count_same : (xs : List A) (ys : List B) (n : ℕ) → length xs ≡ length ys → count_from n xs ≡ count_from n ys
+  pub count_same : (xs : List A) (ys : List B) (n : ℕ) → length xs ≡ length ys → count_from n xs ≡ count_from n ys
   count_same [] [] n e = refl
   count_same [] (y ∷ ys) n e = absurd (omega (arith, e))
   count_same (x ∷ xs) [] n e = absurd (omega (arith, e))
@@ -78,11 +78,11 @@ any_same p q e (x ∷ xs) = rw (e x, any_same p q e xs) refl
 -- ---- kinds
 
 -- what stands in the first alternative stands in the second
-record IsFewer (x y : AltIface) : Type 0 where
-  tied : x.tied ≡ y.tied
-  kinds : IsWithin (letter_kinds x) (letter_kinds y)
+pub record IsFewer (x y : AltIface) : Type 0 where
+  pub tied : x.tied ≡ y.tied
+  pub kinds : IsWithin (letter_kinds x) (letter_kinds y)
 
-abbrev AreFewer : List AltIface → List AltIface → Type 0
+abbrev pub AreFewer : List AltIface → List AltIface → Type 0
 AreFewer [] [] = Unit {0}
 AreFewer (x ∷ xs) (y ∷ ys) = IsFewer x y × AreFewer xs ys
 AreFewer xs ys = ⊥
@@ -95,7 +95,7 @@ kinds_within before x y fewer = by x.tied refl
     by None e = let e2 : y.tied ≡ None = sym fewer.tied ∙ e in rw (e, e2) fewer.kinds
     by (Some k) e = let e2 : y.tied ≡ Some k = sym fewer.tied ∙ e in rw (e, e2) (λ z m. m)
 
-lists_within : (before : List Kind) (xs ys : List AltIface) → AreFewer xs ys
+pub lists_within : (before : List Kind) (xs ys : List AltIface) → AreFewer xs ys
     → IsWithin (kind_lists before xs) (kind_lists before ys)
 lists_within before [] [] fewer z m = m
 lists_within before [] (y ∷ ys) fewer z m = absurd fewer
@@ -105,7 +105,7 @@ lists_within before (x ∷ xs) (y ∷ ys) fewer z m =
     (λ kind. lists_within (before ++ kind ∷ []) xs ys fewer.1) (kinds_after before x) (kinds_after before y)
     (kinds_within before x y fewer.0) z m
 
-if_within : (a b : Bool) (xs ys : List Kind) → (a ≡ true → b ≡ true)
+pub if_within : (a b : Bool) (xs ys : List Kind) → (a ≡ true → b ≡ true)
     → IsWithin ((if a then Kind.Register ∷ [] else []) ++ xs ++ ys) ((if b then Kind.Register ∷ [] else []) ++ xs ++ ys)
 if_within false false xs ys up z m = m
 if_within false true xs ys up z m = inr m
@@ -235,7 +235,7 @@ module _ (items : List Item) (i : Interface) where
             (option_map (operand_with items k)) e in rw (e, e2) refl
         by (Some o) e = in_alternative o e (slice_get o.alts s.alternative) refl
 
-    numbers_same : numbers_in patched ≡ numbers_in i
+    pub numbers_same : numbers_in patched ≡ numbers_in i
     unfolding with_items
     numbers_same = count_same (operands_with items 0 i.operands) i.operands 0 (operands_long items 0 i.operands)
 
@@ -255,7 +255,7 @@ module _ (items : List Item) (i : Interface) where
             ∙ unread_before items k o.role (sym (input_there patched k (operand_with items k o)
             (with_at items i k ∙ ap (option_map (operand_with items k)) e)) ∙ h)
 
-    size_same : (k : ℕ) → size_at patched k ≡ size_at i k
+    pub size_same : (k : ℕ) → size_at patched k ≡ size_at i k
     size_same k = by (slice_get i.operands k) refl
       where
         by : (found : Option OperandIface) → slice_get i.operands k ≡ found → size_at patched k ≡ size_at i k

@@ -1,3 +1,11 @@
+pub mod EditForms
+pub mod EditOrder
+pub mod Edits
 pub mod Items
+pub mod Least
+pub mod Letters
+pub mod Only
 pub mod Rounds
 pub mod Suggested
+pub mod Tighter
+pub mod Upward

@@ -17,7 +17,7 @@ fn is_high_outside(inside: bool, byte: u8) -> bool
 }
 
 /// Whether a bracket is open behind the byte, given whether one is before it.
-fn is_inside_after(inside: bool, byte: u8) -> bool
+pub fn is_inside_after(inside: bool, byte: u8) -> bool
     ensures { result ≡ is_inside_after inside byte }
 {
     if inside { byte != b']' } else { byte == b'[' }

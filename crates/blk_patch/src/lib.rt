@@ -1,6 +1,9 @@
 //! Patches a statement: what its constraints and its clobber list lack, and nothing beside it.
 #![tactic(auto)]
 
+mod clobber_list;
+mod constraint;
+mod editing;
 mod interface;
 mod item;
 mod letters;
@@ -9,5 +12,6 @@ mod rounds;
 mod suggestion;
 mod thinning;
 
+pub use editing::edits;
 pub use item::Item;
 pub use patches::{PatchEnd, patch};

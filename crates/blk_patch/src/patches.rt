@@ -3,7 +3,11 @@
 ghost use Rattle.std.specs.Prelude.{◌≡◌, ◌≤◌, ◌∷◌, length, find, IfOk};
 ghost use Rattle.asm_core.specs.WellFormed.{IsInterface};
 ghost use Rattle.blk_check.specs.Judged.{IsInterfaceOf};
+ghost use Rattle.blk_patch.specs.Least.{IsLeastPatch, HasNoSmaller};
+ghost use Rattle.blk_patch.specs.Letters.{HasLetters};
+ghost use Rattle.blk_patch.specs.Only.{IsOnlyPatch};
 ghost use Rattle.blk_patch.specs.Rounds.{IsPatch, IsReachedEnd, IsEnd, IsAcceptedEnd, IsRefusedEnd, AreSome, refusing, has_no_item, is_without_room};
+ghost use Rattle.blk_patch.specs.Tighter.{OnlyTightens};
 
 use crate::Item;
 use crate::rounds::{Reached, is_without_room, reach};
@@ -28,8 +32,27 @@ pub enum PatchEnd {
     Outside(Mark),
 }
 
-/// Looks for a patch of the statement that has this interface.
+/// The patch of the statement that has this interface. It only tightens what the statement tells the compiler, the
+/// statement is accepted with it, and no item can be left out. Where a rule stays broken, no part of the items that were
+/// tried is accepted; where no placement has room, none without the item that was added last.
 pub fn patch(
+    alloc: Global,
+    statement: &Statement,
+    interface: &Interface,
+) -> Result<PatchEnd, Memory>
+    requires interface { IsInterface interface.now }
+    requires stated { IsInterfaceOf interface.now statement.now }
+    requires letters { HasLetters interface.now statement.now.body }
+    ensures patch { IfOk result (IsPatch statement.now interface.now) }
+    ensures only { IfOk result (IsOnlyPatch statement.now interface.now) }
+    ensures tightens { IfOk result (OnlyTightens statement.now interface.now) }
+    ensures least { IfOk result (IsLeastPatch statement.now interface.now) }
+    ensures none { IfOk result (HasNoSmaller statement.now interface.now) }
+{
+    find_patch(alloc, statement, interface)
+}
+
+fn find_patch(
     alloc: Global,
     statement: &Statement,
     interface: &Interface,

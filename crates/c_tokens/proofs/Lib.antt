@@ -11,5 +11,12 @@ pub mod WhiteLemmas
 pub mod PieceLemmas
 pub mod WordLemmas
 pub mod BalanceLemmas
+pub mod ByteLemmas
+pub mod BeginLemmas
+pub mod KindLemmas
+pub mod ItemLemmas
+pub mod FaultLemmas
 pub mod CutLemmas
+pub mod OnceLemmas
 pub mod CloserLemmas
+pub mod Examples

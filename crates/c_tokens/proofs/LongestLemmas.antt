@@ -28,6 +28,16 @@ number_end-le x i (b ∷ bs) = elim (continues_number b || (x && is_sign b)) as 
   | false ↦ omega arith
 ]
 
+pub number_end-fits : (x : Bool) (i : ℕ) (xs : List ℕ) → number_end x i xs ≤ i + length xs
+unfolding number_end
+number_end-fits x i [] = omega arith
+number_end-fits x i (b ∷ bs) =
+    elim (continues_number b || (x && is_sign b)) as
+    (λ t. cond t (number_end (is_exponent b) (i + 1) bs) i ≤ i + length (b ∷ bs)) [
+      | true ↦ let more = number_end-fits (is_exponent b) (i + 1) bs in omega arith
+      | false ↦ omega arith
+    ]
+
 pub number_to_end : (x : Bool) (i : ℕ) (xs : List ℕ) → is_rest_of_number x (take (number_end x i xs - i) xs) ≡ true
 unfolding number_end is_rest_of_number
 number_to_end x i [] = elim (i - i) as (λ n. is_rest_of_number x (take n []) ≡ true) [ zero ↦ refl | suc n ↦ refl ]
@@ -51,6 +61,7 @@ number_no_more x i (b ∷ bs) (suc m) lt le = elim (continues_number b || (x && 
 -- where a literal ends, and what it spells
 pub record IsClosed (q : ℕ) (t : Bool) (i : ℕ) (xs : List ℕ) (e : ℕ) : Type 0 where
   pub behind : i < e
+  pub inside : e ≤ i + length xs
   pub spelt : is_rest_of_literal q t (take (e - i) xs) ≡ true
   pub longest : (m : ℕ) → e < i + m → m ≤ length xs → is_rest_of_literal q t (take m xs) ≡ false
 
@@ -68,6 +79,7 @@ later q t u i b bs None step c = none
     none (suc m) le = step (take m bs) ∙ c m (omega arith)
 later q t u i b bs (Some e) step c = record {
   behind = let before = c.behind in omega arith;
+  inside = let within = c.inside in omega arith;
   spelt = let before = c.behind in let one : e - i ≡ suc (e - (i + 1)) = omega arith in rw one (step (take (e - (i + 1)) bs) ∙ c.spelt);
   longest = longest;
 }
@@ -80,6 +92,7 @@ closed_here : (q i b : ℕ) (bs : List ℕ) → ((ys : List ℕ) → is_rest_of_
 unfolding is_rest_of_literal
 closed_here q i b bs step = record {
   behind = omega arith;
+  inside = omega arith;
   spelt = let one : i + 1 - i ≡ 1 = omega arith in rw one (step []);
   longest = longest;
 }

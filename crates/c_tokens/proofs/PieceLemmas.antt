@@ -1,18 +1,29 @@
 -- A name, a number, a literal and a punctuator are each the longest of its kind.
-use Rattle.std.proofs.Common.{◌≡◌, ℕ, zero, suc, ◌+◌, ◌-◌, ◌<◌, ◌≤◌, ◌⊎◌, inl, inr, Bool, true, false, List, [], ◌∷◌, take, drop, length, get_or, cond, refl, arith, ◌==◌, ◌||◌, ◌&&◌, ap, sym, ◌∙◌, subst, Option, Some, None, length-drop, get_or-drop, add-zero}
+use Rattle.std.proofs.Common.{◌≡◌, ℕ, zero, suc, ◌+◌, ◌-◌, ◌<◌, ◌≤◌, inl, inr, Bool, true, false, List, [], ◌∷◌, take, drop, length, get_or, cond, refl, arith, ◌==◌, ◌||◌, ◌&&◌, ap, sym, ◌∙◌, subst, Option, Some, None, length-drop, get_or-drop, add-zero}
+use Rattle.std.specs.Prelude.{slice_range}
 use Rattle.std.specs.List.{prefix_len, take_while}
 use Rattle.std.proofs.lemmas.List.{drop_more, drop-drop}
 use Rattle.std.proofs.lemmas.List.Folds.{length-prefix_len}
 use Rattle.std.proofs.lemmas.Bool.{eqb-true, cases_lt}
+use Rattle.c_tokens.specs.declared.token.TokenKind.{TokenKind}
 use Rattle.c_tokens.specs.declared.token.TokenKind.TheVariants.{Name, Number}
 use Rattle.c_tokens.specs.Bytes.{begins_name, continues_name, is_digit, is_letter, is_quote, is_pair_at, continues_number, is_exponent, is_sign}
 use Rattle.c_tokens.specs.Ends.{name_end, number_end}
 use Rattle.c_tokens.specs.Items.{begins_number, opening_at, literal_kind}
-use Rattle.c_tokens.specs.Spelling.{spells, IsLongest, is_rest_of_literal, begins_with_digit}
+use Rattle.c_tokens.specs.Spelling.{spells, is_rest_of_literal, begins_with_digit}
 use Rattle.c_tokens.specs.Cut.{IsOpenLiteral}
-use Rattle.c_tokens.proofs.LongestLemmas.{all_of_prefix, not_all_of_more, number_end-le, number_to_end, number_no_more, IsClosed}
+use Rattle.c_tokens.proofs.LongestLemmas.{all_of_prefix, not_all_of_more, number_end-le, number_end-fits, number_to_end, number_no_more, IsClosed}
+use Rattle.c_tokens.proofs.EndSteps.{take_while-le}
+use Rattle.c_tokens.proofs.ByteLemmas.{quote_cases}
 use Rattle.c_tokens.proofs.PunctLemmas.{and_left, and_right}
 use Rattle.c_tokens.proofs.WhiteLemmas.{past}
+
+-- The bytes between the offsets are a token, and no more bytes are one of its kind.
+pub record IsLongest (text : List ℕ) (kind : TokenKind) (from to : ℕ) : Type 0 where
+  pub some : from < to
+  pub inside : to ≤ length text
+  pub spelt : spells kind (slice_range text from to) ≡ true
+  pub longest : (later : ℕ) → to < later → later ≤ length text → spells kind (slice_range text from later) ≡ false
 
 and_no : (a : Bool) → (a && false) ≡ false
 and_no true = refl
@@ -32,7 +43,10 @@ longest_name text a lt b =
     let rest = drop (a + 1) text in
     let len = length-prefix_len continues_name rest in
     let size = length-drop (a + 1) text in
+    let fits = take_while-le continues_name rest in
     record {
+      some = omega arith;
+      inside = omega (arith, size, fits);
       spelt =
           let n : a + 1 + length (take_while continues_name rest) - a ≡ suc (prefix_len continues_name rest) = omega (arith, len) in
           rw (n, drop_more text a 0 lt) (rw b (all_of_prefix continues_name rest));
@@ -60,7 +74,10 @@ longest_number text a lt b =
     let rest = drop (a + 1) text in
     let further = number_end-le false (a + 1) rest in
     let size = length-drop (a + 1) text in
+    let fits = number_end-fits false (a + 1) rest in
     record {
+      some = omega arith;
+      inside = omega (arith, size, fits);
       spelt =
           let n : number_end false (a + 1) rest - a ≡ suc (number_end false (a + 1) rest - (a + 1)) = omega arith in
           let next : get_or rest 0 0 ≡ get_or text (a + 1) 0 = rw (get_or-drop (a + 1) text 0 0, add-zero) refl in
@@ -77,16 +94,24 @@ longest_number text a lt b =
     either false true q r h k = k h
     either false false q r h k = h
 
+-- a number that begins with `.` is two bytes at least
+pub number_of_two : (text : List ℕ) (a : ℕ) → begins_number text a ≡ true → is_digit (get_or text a 0) ≡ false
+    → a + 1 < number_end false (a + 1) (drop (a + 1) text)
+number_of_two text a b d = elim (cases_lt (a + 1) (number_end false (a + 1) (drop (a + 1) text))) [
+  | inl lt ↦ lt
+  | inr ge ↦
+      let dot : ((get_or text a 0 == 46) && is_digit (get_or text (a + 1) 0)) ≡ true = rw d at b in
+      let digit = and_right (get_or text a 0 == 46) (is_digit (get_or text (a + 1) 0)) dot in
+      let next : get_or (drop (a + 1) text) 0 0 ≡ get_or text (a + 1) 0 =
+      rw (get_or-drop (a + 1) text 0 0, add-zero) refl in
+      let gone = digit_behind false (a + 1) 0 (drop (a + 1) text) (rw next digit) (omega arith) in
+      cc
+]
+
 -- a literal's quote stands behind a prefix of p bytes: which bytes spell a literal is told by those behind the quote
 pub record Opened (k : ℕ) (bs : List ℕ) (p : ℕ) : Type 0 where
   pub same : (m n : ℕ) → n ≡ p + 1 + m → spells (literal_kind k) (take n bs) ≡ is_rest_of_literal k false (take m (drop (p + 1) bs))
   pub short : (n : ℕ) → n ≤ p → spells (literal_kind k) (take n bs) ≡ false
-
-quote_cases : (k : ℕ) → is_quote k ≡ true → (k ≡ 34) ⊎ (k ≡ 39)
-quote_cases k e = elim (k == 34) as (λ t. (k == 34) ≡ t → (t || (k == 39)) ≡ true → (k ≡ 34) ⊎ (k ≡ 39)) [
-  | true ↦ λ f g. inl (eqb-true k 34 f)
-  | false ↦ λ f g. inr (eqb-true k 39 g)
-] refl e
 
 double : (ys : List ℕ) → Opened 34 (34 ∷ ys) 0
 double ys = record {
@@ -220,6 +245,7 @@ pub record Opening (text : List ℕ) (a q : ℕ) : Type 0 where
   pub len : ℕ
   pub there : q ≡ a + len
   pub inside : q < length text
+  pub quoted : is_quote (get_or text q 0) ≡ true
   pub opened : Opened (get_or text q 0) (drop a text) len
 
 abbrev pub Opens : List ℕ → ℕ → Option ℕ → Type 0
@@ -233,7 +259,13 @@ pub opening : (text : List ℕ) (a : ℕ) → a < length text → Opens text a (
 unfolding opening_at
 opening text a lt =
     elim (is_quote (get_or text a 0)) as (λ t. is_quote (get_or text a 0) ≡ t → Opens text a (cond t (Some a) (cond (lettered && is_quote (get_or text (a + 1) 0)) (Some (a + 1)) (cond (eighth && is_quote (get_or text (a + 2) 0)) (Some (a + 2)) None)))) [
-      | true ↦ λ e. record { len = 0; there = omega arith; inside = lt; opened = rw (drop_more text a 0 lt) (plain_opened (get_or text a 0) (drop (a + 1) text) e) }
+      | true ↦ λ e. record {
+        len = 0;
+        there = omega arith;
+        inside = lt;
+        quoted = e;
+        opened = rw (drop_more text a 0 lt) (plain_opened (get_or text a 0) (drop (a + 1) text) e);
+      }
       | false ↦ λ e. elim (lettered && is_quote (get_or text (a + 1) 0)) as (λ t. (lettered && is_quote (get_or text (a + 1) 0)) ≡ t → Opens text a (cond t (Some (a + 1)) (cond (eighth && is_quote (get_or text (a + 2) 0)) (Some (a + 2)) None))) [
         | true ↦ λ f.
             let quote = and_right lettered (is_quote (get_or text (a + 1) 0)) f in
@@ -242,6 +274,7 @@ opening text a lt =
               len = 1;
               there = refl;
               inside = there;
+              quoted = quote;
               opened = rw (drop_more text a 0 lt, drop_more text (a + 1) 0 there) (letter_opened (get_or text a 0) (get_or text (a + 1) 0) (drop (a + 1 + 1) text) (and_left lettered (is_quote (get_or text (a + 1) 0)) f) quote);
             }
         | false ↦ λ f. elim (eighth && is_quote (get_or text (a + 2) 0)) as (λ t. (eighth && is_quote (get_or text (a + 2) 0)) ≡ t → Opens text a (cond t (Some (a + 2)) None)) [
@@ -268,6 +301,7 @@ opening text a lt =
           len = 2;
           there = refl;
           inside = there;
+          quoted = quote;
           opened = rw (drop_more text a 0 lt, drop_more text (a + 1) 0 next, two, drop_more text (a + 2) 0 there, first, second) (eight_opened (get_or text (a + 2) 0) (drop (a + 2 + 1) text) quote);
         }
 
@@ -283,7 +317,11 @@ longest_literal text a q e o c =
     let there = o.there in
     let behind = c.behind in
     let size = length-drop (q + 1) text in
+    let fits = c.inside in
+    let starts = o.inside in
     record {
+      some = omega arith;
+      inside = omega (arith, size, fits, starts);
       spelt = o.opened.same (e - (q + 1)) (e - a) (omega arith) ∙ rw (behind_quote text a q o) c.spelt;
       longest = λ later gt le. o.opened.same (later - (q + 1)) (later - a) (omega arith) ∙ rw (behind_quote text a q o) (c.longest (later - (q + 1)) (omega arith) (omega (arith, size)));
     }

@@ -1,5 +1,5 @@
 -- Which bytes spell a token of which kind, whatever stands around them (C11 6.4.2, 6.4.4.4, 6.4.5, 6.4.6, 6.4.8).
-use Rattle.std.specs.Prelude.{◌≡◌, ℕ, Bool, true, false, List, [], ◌∷◌, ◌<◌, ◌≤◌, ◌==◌, ◌||◌, ◌&&◌, codes, if◌then◌else◌, length, drop, slice_range}
+use Rattle.std.specs.Prelude.{ℕ, Bool, true, false, List, [], ◌∷◌, ◌==◌, ◌||◌, ◌&&◌, codes, if◌then◌else◌, length, drop}
 use Rattle.std.specs.List.{list_any, list_all}
 use Rattle.c_tokens.specs.declared.token.TokenKind.{TokenKind}
 use Rattle.c_tokens.specs.declared.token.TokenKind.TheVariants.{Name, Number, Char, Text, Punct}
@@ -58,8 +58,3 @@ spells Number bs = is_number bs
 spells Char bs = is_literal 39 bs
 spells Text bs = is_literal 34 bs
 spells Punct bs = is_punctuator bs
-
--- The bytes between the offsets are a token, and no more bytes are one of its kind (C11 6.4, paragraph 4).
-pub record IsLongest (text : List ℕ) (kind : TokenKind) (from to : ℕ) : Type 0 where
-  pub spelt : spells kind (slice_range text from to) ≡ true
-  pub longest : (later : ℕ) → to < later → later ≤ length text → spells kind (slice_range text from later) ≡ false

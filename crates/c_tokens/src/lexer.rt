@@ -1,7 +1,7 @@
 //! From a text to its tokens.
 
 ghost use Rattle.std.specs.Prelude.{◌≡◌, ℕ, ◌<◌, ◌≤◌, length, IfOk};
-ghost use Rattle.c_tokens.specs.Cut.{Explains, ExplainsScan, IsOrdered};
+ghost use Rattle.c_tokens.specs.Cut.{Explains, ExplainsScan, HasOneAnswer, IsOrdered};
 ghost use Rattle.c_tokens.specs.Tokens.{Gives, token, tokens_from, tokens_of};
 
 use crate::brackets::unbalanced_at;
@@ -53,7 +53,7 @@ fn scan(alloc: Global, text: &[u8]) -> Result<Items<Token>, TokenEnd>
 }
 
 /// The tokens of the text, or its first fault from the left. An unbalanced bracket is a fault only where there is no other.
-#[tactic(auto, unfolding(crate::specs::Tokens::tokens_of))]
+#[tactic(auto, using(crate::proofs::OnceLemmas::explains_once), unfolding(crate::specs::Tokens::tokens_of))]
 pub fn tokens(alloc: Global, text: &[u8]) -> Result<Tokens, TokenEnd>
     requires { length text.now < 4294967295 }
     // Exactly the definition's answer, unless memory runs out.
@@ -61,8 +61,11 @@ pub fn tokens(alloc: Global, text: &[u8]) -> Result<Tokens, TokenEnd>
     // The spans are in order, apart, not empty, and inside the text.
     ensures ordered { IfOk result (λ t. IsOrdered 0 t.list (length text.now)) }
     ensures few { IfOk result (λ t. length t.list ≤ length text.now) }
-    // Tokens are the longest there, between them is only white space, and brackets match; a fault is the first from the left.
+    // Each token is the longest of any kind there, and none begins where white space does; between them is only white
+    // space, and brackets match. A fault is the first from the left, inside the text.
     ensures explained { Explains text.now result }
+    // No other answer is explained so.
+    ensures one { HasOneAnswer text.now }
 {
     let list = scan(alloc, text)?;
     match unbalanced_at(alloc, text, list.as_slice())? {
