@@ -4,12 +4,12 @@
     checks/rare_forms.py [--size small|full]
 
 The rows below are texts that real files hardly have: tags and bodies behind attributes of all spellings, typedef
-names that are declared again, braces of other dialects, parameters that are named in their own list, identifier lists,
-null pointer constants, `#pragma pack`, tokens that gcc cuts otherwise. A small program over c_exprs, built without a
-proof by `rt try`, prints the sizes of their operands; gcc -m32 compiles the same texts with the sizes in place of the
-operands. Where gcc refuses a text (a form of another compiler, or of C to come), the program may give no size, but for
-rows with one of their own. Both sizes are the same. Status 0 where no size is another than gcc's, 77 where there is no
-gcc for -m32, else 1.
+names that are declared again, braces of other dialects, tags alone, parameters that are named in their own list,
+identifier lists, names of functions in parentheses, names and arguments of attributes, null pointer constants,
+`#pragma pack`, tokens that gcc cuts otherwise. A small program over c_exprs, built without a proof by `rt try`, prints
+the sizes of their operands; gcc -m32 compiles the same texts with the sizes in place of the operands. Where gcc refuses
+a text (a form of another compiler, or of C to come), the program may give no size, but for rows with one of their own.
+Both sizes are the same. Status 0 where no size is another than gcc's, 77 where there is no gcc for -m32, else 1.
 """
 import pathlib
 import re
@@ -39,6 +39,19 @@ TEXTS = [
     "struct s {int a;}; void f(void) { struct [[gnu::unused]] s; struct s *p; struct s {short a;}; @(p->a) }",
     "struct s {int a;}; void f(void) { struct s __attribute__((unused)); struct s *p; struct s {short a;}; @(p->a) }",
     "struct s {int a;}; void f(void) { [[gnu::unused]] struct s; struct s *p; struct s {short a;}; @(p->a) }",
+    # tags alone, which declare anew, and with other words
+    "struct s {int a;}; void f(void) { struct s; struct s *p; struct s {short a;}; @(p->a) }",
+    "struct s {int a;}; void f(void) { __extension__ __attribute__((unused)) struct s; struct s *p; "
+    "struct s {short a;}; @(p->a) }",
+    "struct s {int a;}; void f(void) { const struct s; struct s *p; struct s {short a;}; @(p->a) }",
+    "struct s {int a;}; void f(void) { struct s const; struct s *p; struct s {short a;}; @(p->a) }",
+    "struct s {int a;}; void f(void) { static struct s; struct s *p; struct s {short a;}; @(p->a) }",
+    "struct s {int a;}; void f(void) { __attribute__((unused)) const struct s; struct s *p; struct s {short a;}; "
+    "@(p->a) }",
+    "struct s {int a;}; void f(void) { _Alignas(8) struct s; struct s *p; struct s {short a;}; @(p->a) }",
+    "union s {int a;}; void f(void) { struct t {union s; int b;} v; union s *p; union s {short a;}; @(p->a) @(v) }",
+    "void f(void) { struct t {struct s; int b;} v; struct s *p; struct s {short a;}; @(p->a) @(v) }",
+    "struct s {int a;}; void f(void) { const struct s; struct s {short a;}; struct s v; @(v) }",
     "void f(void) { char B; { enum e : short {B}; @(B) } }",
     "enum e {A}; void f(void) { enum e : short {B}; enum e y; @(y) }",
     # typedef names that are declared again
@@ -63,6 +76,43 @@ TEXTS = [
     "_Alignas(8) char w[3]; void f(void) { int z; @(z) @(w) }",
     "_Atomic(int) volatile v; void f(void) { int z; @(z) }",
     "static __thread __attribute__((unused)) int t; void f(void) { int z; @(z) }",
+    # functions with their name in parentheses
+    "int (f)(int x, short y) { @(x) @(y) return 0; }",
+    "int x; int (*(f)(short x))(int) { @(x) return 0; }",
+    "int x; int (*((f)(short x)))(int x) { @(x) return 0; }",
+    "int x; int (*(*(f)(short x))(char x))(int x) { @(x) return 0; }",
+    "int x; int (((__attribute__((noinline)) f)))(short x) { @(x) return 0; }",
+    "int x; void g(void) { int (f)(short x) { @(x) return 0; } f(1); }",
+    "int x; int (f)(x, y) short x, y; { @(x) return 0; }",
+    "int x; int (*f)(short x) { @(x) return 0; }",
+    # attributes by their own name, and words in the arguments of others
+    "int mode(int), QI; void f(void) { __attribute__((foo(mode(QI)))) int x; @(x) }",
+    "int mode(int), QI; int x __attribute__((int(mode(QI)), mode(HI))); void f(void) { @(x) }",
+    "int x __attribute__((unused, mode(QI))) __attribute__((unused)); void f(void) { @(x) }",
+    "enum {QI = 1}; int x __attribute__((mode(QI + 1))); void f(void) { @(x) }",
+    "enum {QI = 1}; int x __attribute__((mode((QI)))); void f(void) { @(x) }",
+    "int x [[foo::bar(mode(QI))]], y [[gnu::mode(QI)]], z [[mode(QI)]]; void f(void) { @(x) @(y) @(z) }",
+    "void vector_size(int *p); void f(void) { int x __attribute__((cleanup(vector_size))); @(x) }",
+    "int packed; struct {char c; int a __attribute__((foo(packed)));} s; void f(void) { @(s) @(s.a) }",
+    "int packed; struct __attribute__((foo(packed))) {char c; int a;} s; void f(void) { @(s) }",
+    "int mode(int), QI; enum __attribute__((foo(mode(QI)))) {A} s; void f(void) { @(s) }",
+    "enum __attribute__((unused, mode(QI))) {A} s; void f(void) { @(s) }",
+    # attributes behind the parenthesis of a parameter or type name
+    "void f(int (__attribute__((unused)) *p)) { @(p) @(*p) }",
+    "void f(int (__attribute__((unused)) x)[3]) { @(x) @(*x) }",
+    "void f(int (__attribute__((unused)) (*p))) { @(p) @(*p) }",
+    "void f(int (__attribute__((mode(QI))) x)) { @(x) }",
+    "void f(int (__attribute__((mode(QI))) *x)) { @(x) @(*x) }",
+    "void f(int (__attribute__((aligned(16))) p)) { struct {char c; __typeof__(p) x;} s; @(p) @(s) }",
+    "void f(int (__attribute__((aligned(16))) *p)) { struct {char c; __typeof__(p) x;} s; @(p) @(*p) @(s) }",
+    "void f(int (__attribute__((vector_size(16))) *p)) { @(p) @(*p) }",
+    "typedef char T; void f(int (__attribute__((unused)) T)) { int T; @(T) }",
+    "void f(int x(__attribute__((unused)) int y)) { @(x) }",
+    "void f(int ([[gnu::unused]] *p)) { @(f) }",
+    "void f(void) { @(*(int (__attribute__((unused)) *))0) @(*(char (__attribute__((unused)) *)[3])0) }",
+    "void f(void) { @(*(int (__attribute__((mode(QI))) *))0) @(*(int (__attribute__((aligned(16))) *))0) }",
+    "void f(void) { @(**(char (*(__attribute__((unused)) *))[3])0) @(*(char (*)(__attribute__((unused)) int))0) }",
+    "void f(void) { struct {char c; __typeof__(int (__attribute__((aligned(16))) *)) x;} s; @(s) }",
     # attributes that gcc counts in typeof
     "void f(void) { struct {char c; __typeof__(int __attribute__((aligned(16)))) x;} s; @(s) }",
     "void f(void) { struct {char c; __typeof__(int *__attribute__((aligned(16)))) x;} s; @(s) }",
@@ -78,8 +128,11 @@ TEXTS = [
     "#pragma /* all */ pack(1)\nstruct s {char c; int a;}; struct s v; void f(void) { @(v) }",
     "struct s {char c; int a;}; struct s v; void f(void) { @(v) }\n#pragma pack(1)\n",
 ]
-# Such texts that gcc refuses, with the sizes that they have by another standard.
-SIZED = {"void f(void) { int x, a; if (short x = 1; a) { @(x) } }": [2]}
+# Such texts that gcc refuses, with the sizes that they have by another standard, or behind the braces of another dialect.
+SIZED = {
+    "void f(void) { int x, a; if (short x = 1; a) { @(x) } }": [2],
+    "void f(void) { int x; each(x) { short x = 1; @(x) } @(x) }": [None, 4],
+}
 
 
 def operands(text):

@@ -1,6 +1,7 @@
 -- Declarations (C11 6.7) and what they declare.
-use Rattle.std.specs.Prelude.{ℕ, ◌<◌, ◌+◌, ◌-◌, ◌==◌, ◌&&◌, not, if◌then◌else◌, Option, Some, None, length, List, [], ◌∷◌}
-use Rattle.c_types.specs.declared.ctype.CType.{CType}
+use Rattle.std.specs.Prelude.{ℕ, Bool, true, false, ◌<◌, ◌+◌, ◌-◌, ◌==◌, ◌&&◌, not, if◌then◌else◌, Option, Some, None, length, List, [], ◌∷◌}
+use Rattle.c_types.specs.declared.ctype.CType.{CType, out-CType}
+use Rattle.c_types.specs.declared.ctype.CType.TheOpen.{CType-F}
 use Rattle.c_words.specs.File.{File}
 use Rattle.c_words.specs.Words.{word_at, bytes_at, start_at, end_at, past_group, behind_asm_label}
 use Rattle.c_scopes.specs.Seen.{Declared}
@@ -27,7 +28,7 @@ use Rattle.c_decls.specs.Progress.{Read, read}
 use Rattle.c_decls.specs.Ends.{level_end}
 use Rattle.c_decls.specs.Recovery.{uncovered_at}
 use Rattle.c_decls.specs.Hiding.{declared, hidden_name, hidden_bodies, hidden_by, hiding_of}
-use Rattle.c_decls.specs.Tags.{Bodies, named_tags}
+use Rattle.c_decls.specs.Tags.{Bodies, lone_tag, named_tags}
 use Rattle.c_decls.specs.Members.{declarator_in, name_of, specifiers_in, tags_within}
 use Rattle.c_decls.specs.Bodies.{body_declared}
 
@@ -137,21 +138,31 @@ abbrev pub initialised : File → ℕ → ℕ → Declared → Reading
 initialised f to i seen =
     let end = level_end f stops.Comma (i + 1) in next_declarator f end (hidden_bodies f to (i + 1) end seen)
 
--- a function's body may follow the first declarator (6.9.1)
-abbrev pub begins_body : File → Specifiers → ℕ → Option ℕ → ℕ → Declared → Reading
-begins_body f s j None i seen = ended seen endings.Uncovered
-begins_body f s j (Some paren) i seen =
-    if (s.end == j) && not s.is_typedef then ended (parameters_declared f paren i seen) (endings.Body i) else ended seen endings.Uncovered
+abbrev function_at : CType-F CType → Bool
+function_at (CType-F.Function gives) = true
+function_at _ = false
 
-abbrev pub behind_declarator : File → ℕ → Specifiers → ℕ → Option ℕ → ℕ → Declared → Reading
-behind_declarator f to s j paren i seen =
+abbrev pub is_function : CType → Bool
+is_function t = function_at (out-CType t)
+
+-- the parameters of a function whose body may follow: the first declarator's (6.9.1)
+abbrev pub body_parameters : Specifiers → ℕ → Declarator → Option ℕ
+body_parameters s j d = if (s.end == j) && not s.is_typedef && is_function d.ctype then d.parameters else None
+
+abbrev pub begins_body : File → Option ℕ → ℕ → Declared → Reading
+begins_body f None i seen = ended seen endings.Uncovered
+begins_body f (Some paren) i seen = ended (parameters_declared f paren i seen) (endings.Body i)
+
+abbrev pub behind_declarator : File → ℕ → Option ℕ → ℕ → Declared → Reading
+behind_declarator f to paren i seen =
     if is_assign (word_at f i) then initialised f to i seen
-    else if is_open_brace (word_at f i) then begins_body f s j paren i seen
+    else if is_open_brace (word_at f i) then begins_body f paren i seen
     else next_declarator f i seen
 
 abbrev pub declared_again : File → ℕ → Specifiers → ℕ → Declared → Option Declarator → Reading
 declared_again f to s j seen None = ended seen endings.Uncovered
-declared_again f to s j seen (Some d) = behind_declarator f to s j d.parameters (attributes_of f s d).end (name_declared f to s d seen)
+declared_again f to s j seen (Some d) =
+    behind_declarator f to (body_parameters s j d) (attributes_of f s d).end (name_declared f to s d seen)
 
 -- the tags in the declarator are declared before its type is known
 abbrev pub again : File → ℕ → Specifiers → ℕ → Declared → Reading
@@ -182,7 +193,7 @@ specified_again f to i seen = behind_specifiers f to seen (specifiers_in f 64 i 
 
 abbrev pub specified : File → ℕ → ℕ → Declared → Option Specifiers → Found
 specified f to i seen None = read seen endings.Uncovered
-specified f to i seen (Some s) = specified_again f to i (named_tags f to (bodies_in f to) i s.end seen)
+specified f to i seen (Some s) = specified_again f to i (named_tags f to (bodies_in f to) i s.end (lone_tag f to i seen))
 
 -- The declaration at the index, in a scope that ends at the offset `to`: what is seen behind it, and where it ends.
 unfoldable pub declaration_at : File → ℕ → ℕ → Declared → Found

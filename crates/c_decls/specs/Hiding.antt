@@ -3,7 +3,7 @@ use Rattle.std.specs.Prelude.{ℕ, zero, suc, Bool, true, false, ◌+◌, ◌-�
 use Rattle.c_types.specs.declared.ctype.CType.{CType, out-CType}
 use Rattle.c_types.specs.declared.ctype.CType.TheOpen.{CType-F}
 use Rattle.c_types.specs.declared.tag.Tag.{Tag}
-use Rattle.c_types.specs.declared.tag.TheConstants.{NO_BODY}
+use Rattle.c_types.specs.Types.{no_body}
 use Rattle.c_words.specs.File.{File}
 use Rattle.c_words.specs.Words.{word_at, bytes_at, start_at, end_at, past_group, behind_asm_label, is_name_word}
 use Rattle.c_words.specs.declared.word.Word.{Word}
@@ -62,7 +62,7 @@ hidden_enumerators f from to brace seen = repeated (enumerators_step f from to) 
 -- ---- structs and unions of which nothing is known
 
 abbrev pub unknown_tag : Bool → Tag
-unknown_tag joined = record { joined = joined; names = []; members = []; layout = None; known_from = NO_BODY }
+unknown_tag joined = record { joined = joined; names = []; members = []; layout = None; known_from = no_body }
 
 -- the offset behind the body of the struct, union or enumeration whose keyword has this index
 abbrev pub body_place : File → ℕ → ℕ

@@ -3,7 +3,7 @@ use Rattle.std.specs.Prelude.{ℕ, Bool, true, false, ◌+◌, ◌==◌, ◌&&�
 use Rattle.c_types.specs.declared.ctype.CType.{CType, Tagged, out-CType}
 use Rattle.c_types.specs.declared.ctype.CType.TheOpen.{CType-F}
 use Rattle.c_types.specs.declared.tag.Tag.{Tag}
-use Rattle.c_types.specs.declared.tag.TheConstants.{NO_BODY}
+use Rattle.c_types.specs.Types.{no_body}
 use Rattle.c_words.specs.File.{File}
 use Rattle.c_words.specs.Words.{word_at, bytes_at, start_at, end_at, past_group}
 use Rattle.c_words.specs.declared.word.Word.{Word}
@@ -19,7 +19,8 @@ use Rattle.c_reader.specs.Repeat.{repeated}
 use Rattle.c_reader.specs.Marks.{is_name, is_semicolon, is_open_paren, is_open_bracket}
 use Rattle.c_reader.specs.Attributes.{attributes_at}
 use Rattle.c_reader.specs.Specifiers.{tag_index, tag_bytes, tag_place}
-use Rattle.c_decls.specs.Ends.{behind_word, body_index, has_body}
+use Rattle.c_decls.specs.Ends.{behind_word, body_index, has_body, tag_kind}
+use Rattle.c_decls.specs.Items.{behind_extensions}
 use Rattle.c_decls.specs.Hiding.{Hiding, declared, hidden_at_end, hidden_bodies, is_enum, unknown_tag}
 
 abbrev pub is_union : TagWord → Bool
@@ -41,32 +42,49 @@ new_tag joined tag from to seen =
 abbrev pub first_named : TagWord → List ℕ → ℕ → ℕ → Declared → Declared
 first_named kind tag from to seen = if is_enum kind then declared tag entities.Tag None from to seen else new_tag (is_union kind) tag from to seen
 
--- what the tag is declared as already, in any scope and in the scope that ends at the offset `to`
+-- what the tag is declared as already, in any scope
 abbrev pub tag_declared : File → ℕ → Declared → Option Declaration
 tag_declared f j seen = declaration_of seen tags (bytes_at f j) (start_at f j)
-
-abbrev pub in_scope : ℕ → Option Declaration → Bool
-in_scope to None = false
-in_scope to (Some d) = d.seen.to == to
 
 abbrev pub is_there : Option Declaration → Bool
 is_there None = false
 is_there (Some d) = true
 
--- A tag alone, attributes behind it aside, declares it anew in its scope; elsewhere it is declared where it is first named (6.7.2.3, 7 and 8).
-abbrev pub is_declared : File → ℕ → ℕ → Declared → Bool
-is_declared f to j seen =
-    if is_semicolon (word_at f (attributes_at f (j + 1)).end) then in_scope to (tag_declared f j seen) else is_there (tag_declared f j seen)
+-- in a scope around the one that ends at the offset
+abbrev pub is_outer : ℕ → Option Declaration → Bool
+is_outer to None = false
+is_outer to (Some d) = not (d.seen.to == to)
 
--- the tag at the index is named without a body
+-- the tag at the index is named without a body: it is declared where it is first named (6.7.2.3, 8)
 abbrev pub referred : File → ℕ → TagWord → ℕ → Declared → Declared
-referred f to kind j seen = if is_declared f to j seen then seen else first_named kind (bytes_at f j) (end_at f j) to seen
+referred f to kind j seen =
+    if is_there (tag_declared f j seen) then seen else first_named kind (bytes_at f j) (end_at f j) to seen
+
+abbrev pub renewed : File → ℕ → TagWord → ℕ → Declared → Declared
+renewed f to kind j seen =
+    if is_outer to (tag_declared f j seen) then first_named kind (bytes_at f j) (end_at f j) to seen else seen
+
+-- behind the tag at the index stands nothing but attributes
+abbrev pub is_last : File → ℕ → Bool
+is_last f j = is_name (word_at f j) && is_semicolon (word_at f (attributes_at f (j + 1)).end)
+
+abbrev pub renewed_by : File → ℕ → ℕ → Declared → Option TagWord → Declared
+renewed_by f to j seen None = seen
+renewed_by f to j seen (Some kind) = if is_last f j then renewed f to kind j seen else seen
+
+abbrev pub renewed_at : File → ℕ → ℕ → Declared → Declared
+renewed_at f to i seen = renewed_by f to (tag_index f i) seen (tag_kind (word_at f i))
+
+-- A declaration of a tag alone, `__extension__` and attributes aside, declares it anew where a scope around has one; with other words
+-- before or behind the tag it doesn't (6.7.2.3, 7).
+abbrev pub lone_tag : File → ℕ → ℕ → Declared → Declared
+lone_tag f to i seen = renewed_at f to (attributes_at f (behind_extensions f i)).end seen
 
 -- ---- a tag with a body
 
 abbrev pub is_open_tag : Bool → Option Tag → Bool
 is_open_tag joined None = false
-is_open_tag joined (Some t) = same_bool t.joined joined && (t.known_from == NO_BODY)
+is_open_tag joined (Some t) = same_bool t.joined joined && (t.known_from == no_body)
 
 abbrev pub is_open_type : Declared → Bool → CType-F CType → Bool
 is_open_type seen joined (CType-F.Tagged number) = is_open_tag joined (slice_get seen.tags.list number)

@@ -4,7 +4,7 @@ ghost use Rattle.std.specs.Prelude.{◌≡◌, ◌<◌, IfOk, length};
 ghost use Rattle.c_scopes.specs.Seen.{Declared};
 ghost use Rattle.c_reader.specs.declared.next.Next.TheVariants.{Done};
 ghost use Rattle.c_decls.specs.Progress.{read};
-ghost use Rattle.c_decls.specs.Declarations.{GoesOn, StandsIn, again, begins_body, behind_declarator, declarator_step, declarators_declared, declaring, initialised, next_declarator};
+ghost use Rattle.c_decls.specs.Declarations.{GoesOn, StandsIn, again, begins_body, behind_declarator, body_parameters, declarator_step, declarators_declared, declaring, initialised, is_function, next_declarator};
 
 use crate::declaring::{Ending, MOST_NESTING, attributes_of, declare_name};
 use crate::ends::{Stop, level_end};
@@ -14,8 +14,9 @@ use crate::parameters::declare_parameters;
 use crate::tag_names::name_tags_within;
 use asm_core::Memory;
 use c_reader::marks::{is_assign, is_comma, is_open_brace, is_semicolon};
-use c_reader::{Next, Specifiers};
+use c_reader::{Declarator, Next, Specifiers};
 use c_scopes::Scopes;
+use c_types::CType;
 use c_words::Source;
 use std::alloc::Global;
 
@@ -51,41 +52,53 @@ fn initialised(
     Ok(next_declarator(source, end))
 }
 
-/// The declarator that begins at one index, with its parameters' parenthesis, if it is followed by the brace of a function's body at another
-/// (C11 6.9.1). Only the first declarator of a declaration may be.
+/// Whether it is a function's type.
+fn is_function(t: &CType) -> bool
+    ensures { result ≡ is_function t.now }
+{
+    matches!(t, CType::Function(_))
+}
+
+/// The parenthesis of the parameters of a function whose body may follow the declarator at the index (C11 6.9.1). Only the first declarator
+/// of a declaration may be that of one.
+fn body_parameters(s: &Specifiers, j: usize, d: &Declarator) -> Option<usize>
+    ensures { result ≡ body_parameters s.now j d.now }
+{
+    if s.end == j && !s.is_typedef && is_function(&d.ctype) {
+        d.parameters
+    } else {
+        None
+    }
+}
+
+/// The brace of a function's body with the parenthesis of its parameters, if a body may stand there.
 fn begins_body(
     alloc: Global,
     source: &Source<'_>,
     scopes: &mut Scopes,
-    s: &Specifiers,
-    j: usize,
     paren: Option<usize>,
     brace: usize,
 ) -> Result<Ending, Memory>
-    ensures is { IfOk result (λ e. declaring scopes.new (Done e) ≡ begins_body source.now s.now j paren brace scopes.old) }
+    ensures is { IfOk result (λ e. declaring scopes.new (Done e) ≡ begins_body source.now paren brace scopes.old) }
     ensures inside { brace < length source.now.tokens → IfOk result (λ e. StandsIn source.now e) }
 {
-    match paren {
-        Some(paren) if s.end == j && !s.is_typedef => {
-            declare_parameters(alloc, source, scopes, paren, brace)?;
-            Ok(Ending::Body(brace))
-        }
-        _ => Ok(Ending::Uncovered),
-    }
+    let Some(paren) = paren else {
+        return Ok(Ending::Uncovered);
+    };
+    declare_parameters(alloc, source, scopes, paren, brace)?;
+    Ok(Ending::Body(brace))
 }
 
-/// What follows the declarator that begins at the index `j` and its attributes, at the index `i`.
+/// What follows a declarator and its attributes, at the index `i`.
 fn behind_declarator(
     alloc: Global,
     source: &Source<'_>,
     scopes: &mut Scopes,
     to: u32,
-    s: &Specifiers,
-    j: usize,
     paren: Option<usize>,
     i: usize,
 ) -> Result<Next<(), Ending>, Memory>
-    ensures is { IfOk result (λ next. declaring scopes.new next ≡ behind_declarator source.now to s.now j paren i scopes.old) }
+    ensures is { IfOk result (λ next. declaring scopes.new next ≡ behind_declarator source.now to paren i scopes.old) }
     ensures further { IfOk result (λ next. GoesOn source.now i next) }
 {
     let word = source.word(i);
@@ -93,7 +106,7 @@ fn behind_declarator(
         return initialised(alloc, source, scopes, to, i);
     }
     if is_open_brace(word) {
-        return Ok(Next::Done(begins_body(alloc, source, scopes, s, j, paren, i)?));
+        return Ok(Next::Done(begins_body(alloc, source, scopes, paren, i)?));
     }
     Ok(next_declarator(source, i))
 }
@@ -113,9 +126,9 @@ fn declare_again(
     let Some(d) = declarator_in(alloc, source, scopes, MOST_NESTING, s, j)? else {
         return Ok(Next::Done(Ending::Uncovered));
     };
-    let paren = d.parameters;
+    let paren = body_parameters(s, j, &d);
     let end = declare_name(alloc, source, scopes, to, s, d)?;
-    behind_declarator(alloc, source, scopes, to, s, j, paren, end)
+    behind_declarator(alloc, source, scopes, to, paren, end)
 }
 
 /// The declarator at the index, and what follows it. Its tags are declared before its type is known.

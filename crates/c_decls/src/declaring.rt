@@ -8,6 +8,7 @@ use crate::declarators::declare_all;
 use crate::hiding::{Hidden, declare};
 use crate::members::{name_of, specifiers_in};
 use crate::recovery::{Uncovered, uncovered_at};
+use crate::tag_declarations::declare_lone_tag;
 use crate::tag_names::name_tags_within;
 use crate::uncovered::hide_declaration;
 use asm_core::Memory;
@@ -123,6 +124,7 @@ fn declaration_at(
     let Some(s) = specifiers_in(alloc, source, scopes, MOST_NESTING, i)? else {
         return Ok(Ending::Uncovered);
     };
+    declare_lone_tag(alloc, source, scopes, to, i)?;
     name_tags_within(alloc, source, scopes, to, MOST_NESTING, i, s.end)?;
     specified_again(alloc, source, scopes, to, i)
 }

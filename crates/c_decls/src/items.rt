@@ -21,7 +21,7 @@ pub enum Item {
 
 /// The index behind each `__extension__` from the index on.
 #[tactic(auto, using(crate::proofs::ItemLemmas::extension_steps))]
-fn behind_extensions(source: &Source<'_>, first: usize) -> usize
+pub fn behind_extensions(source: &Source<'_>, first: usize) -> usize
     ensures { result ≡ behind_extensions source.now first }
 {
     let mut i = first;

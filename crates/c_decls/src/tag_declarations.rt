@@ -5,15 +5,16 @@ ghost use Rattle.c_types.specs.declared.ctype.CType.{out-CType};
 ghost use Rattle.c_reader.specs.Specifiers.{tag_bytes, tag_place};
 ghost use Rattle.c_scopes.specs.declared.declaration.Entity.TheVariants as entities;
 ghost use Rattle.c_decls.specs.Hiding.{declared};
-ghost use Rattle.c_decls.specs.Tags.{first_named, is_declared, is_open, is_open_type, new_tag, opened, referred};
+ghost use Rattle.c_decls.specs.Tags.{first_named, is_last, is_open, is_open_type, is_outer, is_there, lone_tag, new_tag, opened, referred, renewed, renewed_at, tag_declared};
 
 use crate::hiding::{declare, unknown_tag};
+use crate::items::behind_extensions;
 use asm_core::Memory;
 use c_reader::attributes_at;
 use c_reader::marks::{is_name, is_semicolon};
 use c_scopes::{Entity, NameSpace, Scopes};
 use c_types::{CType, NO_BODY};
-use c_words::{Source, TagWord};
+use c_words::{Source, TagWord, Word};
 use std::alloc::Global;
 
 /// Declares what the tag at the index names, or under the empty tag what has none there.
@@ -88,16 +89,22 @@ fn declare_first(
     }
 }
 
-/// Whether what the tag at the index names is declared already. A tag alone, attributes behind it aside, declares it anew in its scope (C11 6.7.2.3, 7).
-fn is_declared(source: &Source<'_>, scopes: &Scopes, to: u32, tag: usize) -> bool
-    requires { tag < 4294967296 }
-    ensures { result ≡ is_declared source.now to tag scopes.now }
+/// Whether what the tag at the index names is declared already, in any scope.
+fn is_declared(source: &Source<'_>, scopes: &Scopes, tag: usize) -> bool
+    ensures { result ≡ is_there (tag_declared source.now tag scopes.now) }
 {
     match scopes.declaration(NameSpace::Tag, source.bytes(tag), source.start(tag)) {
-        Some(declaration) => {
-            let behind = attributes_at(source, tag + 1).end;
-            !is_semicolon(source.word(behind)) || declaration.seen.to == to
-        }
+        Some(_) => true,
+        None => false,
+    }
+}
+
+/// Whether it is declared in a scope around the one that ends at the offset `to`.
+fn is_outer(source: &Source<'_>, scopes: &Scopes, to: u32, tag: usize) -> bool
+    ensures { result ≡ is_outer to (tag_declared source.now tag scopes.now) }
+{
+    match scopes.declaration(NameSpace::Tag, source.bytes(tag), source.start(tag)) {
+        Some(declaration) => declaration.seen.to != to,
         None => false,
     }
 }
@@ -111,13 +118,71 @@ pub fn refer(
     kind: TagWord,
     tag: usize,
 ) -> Result<(), Memory>
-    requires { tag < 4294967296 }
     ensures { IfOk result (λ _. scopes.new ≡ referred source.now to kind tag scopes.old) }
 {
-    if is_declared(source, scopes, to, tag) {
+    if is_declared(source, scopes, tag) {
         return Ok(());
     }
     declare_first(alloc, scopes, kind, source.bytes(tag), source.end(tag), to)
+}
+
+/// Declares the tag at the index in the scope that ends at the offset `to`, if a scope around has one.
+fn renew(
+    alloc: Global,
+    source: &Source<'_>,
+    scopes: &mut Scopes,
+    to: u32,
+    kind: TagWord,
+    tag: usize,
+) -> Result<(), Memory>
+    ensures { IfOk result (λ _. scopes.new ≡ renewed source.now to kind tag scopes.old) }
+{
+    if !is_outer(source, scopes, to, tag) {
+        return Ok(());
+    }
+    declare_first(alloc, scopes, kind, source.bytes(tag), source.end(tag), to)
+}
+
+/// Whether a tag stands at the index and behind it nothing but attributes.
+fn is_last(source: &Source<'_>, tag: usize) -> bool
+    ensures { result ≡ is_last source.now tag }
+{
+    is_name(source.word(tag)) && is_semicolon(source.word(attributes_at(source, tag + 1).end))
+}
+
+/// Declares the tag of the keyword at the index anew, if it is one and the tag is last.
+fn renew_at(
+    alloc: Global,
+    source: &Source<'_>,
+    scopes: &mut Scopes,
+    to: u32,
+    i: usize,
+) -> Result<(), Memory>
+    ensures { IfOk result (λ _. scopes.new ≡ renewed_at source.now to i scopes.old) }
+{
+    let Word::Tag(kind) = source.word(i) else {
+        return Ok(());
+    };
+    let tag = attributes_at(source, i + 1).end;
+    if !is_last(source, tag) {
+        return Ok(());
+    }
+    renew(alloc, source, scopes, to, kind, tag)
+}
+
+/// A declaration of a tag alone, `__extension__` and attributes aside, declares it anew in the scope that ends at the offset `to` where a
+/// scope around has one (C11 6.7.2.3, 7).
+pub fn declare_lone_tag(
+    alloc: Global,
+    source: &Source<'_>,
+    scopes: &mut Scopes,
+    to: u32,
+    first: usize,
+) -> Result<(), Memory>
+    ensures { IfOk result (λ _. scopes.new ≡ lone_tag source.now to first scopes.old) }
+{
+    let i = attributes_at(source, behind_extensions(source, first)).end;
+    renew_at(alloc, source, scopes, to, i)
 }
 
 /// Whether the type is a struct, or a union where `joined` holds, that has no body yet.

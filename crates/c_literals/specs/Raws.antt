@@ -14,6 +14,8 @@ raws_from to i (b ∷ bs) =
     if nat_lt i to then (if is_splice b (slice_index bs 0) then raws_from to (i + 1) bs else (record { byte = b; at = i }) ∷ raws_from to (i + 1) bs)
     else []
 
+-- The bytes from one offset up to another, without their newlines and the backslashes directly before these. Every newline is left
+-- out, also one without a backslash: in a literal or a name, of which it is asked, there is none.
 abbrev pub raws_between : List ℕ → ℕ → ℕ → List Raw
 raws_between text from to = raws_from to from (drop from text)
 

@@ -1,5 +1,5 @@
 -- What GNU attributes ask for that changes sizes (GCC manual, "Attribute Syntax", "Common Variable Attributes", "Common Type Attributes").
-use Rattle.std.specs.Prelude.{◌≡◌, ℕ, zero, suc, Bool, true, false, ◌+◌, ◌-◌, ◌&&◌, ◌||◌, nat_eq, codes, if◌then◌else◌, List, length, Option, Some, None}
+use Rattle.std.specs.Prelude.{◌≡◌, ℕ, Bool, true, false, ◌+◌, ◌&&◌, ◌||◌, nat_eq, codes, if◌then◌else◌, List, length, Option, Some, None}
 use Rattle.std.specs.Cmp.Lexicographic.{pointwise}
 use Rattle.c_types.specs.declared.ctype.CType.{CType, Int, out-CType}
 use Rattle.c_types.specs.declared.ctype.CType.TheOpen.{CType-F}
@@ -13,7 +13,7 @@ use Rattle.c_reader.specs.declared.attributes.Asked.{Asked}
 use Rattle.c_reader.specs.declared.next.Next.{Next}
 use Rattle.c_reader.specs.declared.next.Next.TheVariants.{Done, More}
 use Rattle.c_reader.specs.Repeat.{repeated}
-use Rattle.c_reader.specs.Marks.{is_attribute, is_name, is_open_bracket, is_open_paren}
+use Rattle.c_reader.specs.Marks.{is_attribute, is_close_paren, is_name, is_open_bracket, is_open_paren}
 
 abbrev pub no_attributes : Attributes
 no_attributes = record { vector = false; aligned = false; mode = modes.Unasked }
@@ -41,9 +41,10 @@ mode_named name =
 
 -- ---- one group
 
--- the mode in the parentheses at the index
+-- the mode in the parentheses at the index, in which its name stands alone
 abbrev pub mode_behind : File → ℕ → Mode
-mode_behind f i = if is_open_paren (word_at f i) then mode_named (bytes_at f (i + 1)) else modes.Other
+mode_behind f i =
+    if is_open_paren (word_at f i) && is_close_paren (word_at f (i + 2)) then mode_named (bytes_at f (i + 1)) else modes.Other
 
 -- what the attribute with its name at the index asks for, alone or with underscores on both sides
 unfoldable pub asked_named : File → ℕ → Attributes
@@ -57,12 +58,21 @@ asked_named f i =
 abbrev pub asked_by : File → ℕ → Attributes
 asked_by f i = if is_name (word_at f i) then asked_named f i else no_attributes
 
--- what so many tokens from the index i on ask for
-unfoldable pub asked_from : File → ℕ → ℕ → Attributes
-asked_from f i zero = no_attributes
-asked_from f i (suc n) = both (asked_by f i) (asked_from f (i + 1) n)
+-- one token of a list of attributes, beside what is asked already; brackets behind it are passed over: in them stand arguments
+abbrev pub asked_step : File → ℕ → Attributes → Next Attributes Attributes
+asked_step f i asked = More (both asked (asked_by f i)) (past_group f i)
 
--- ---- groups one behind the other
+abbrev pub asked_stop : ℕ → Attributes → Attributes
+asked_stop i asked = asked
+
+-- what the list of attributes that ends before the index `end` asks for from the index i on
+abbrev pub asked_until : File → ℕ → ℕ → Attributes → Attributes
+asked_until f end i asked = repeated (asked_step f) asked_stop end i asked
+
+abbrev pub asked_between : File → ℕ → ℕ → Attributes
+asked_between f i end = asked_until f end i no_attributes
+
+-- ---- groups one behind the other: each a list of attributes in two brackets
 
 abbrev pub begins_attribute : File → ℕ → Bool
 begins_attribute f i = is_attribute (word_at f i) && is_open_paren (word_at f (i + 1))
@@ -82,9 +92,9 @@ with_unknown_mode a = record a { mode = unknown_mode a.mode }
 abbrev pub attributes_step : File → ℕ → Attributes → Next Attributes Asked
 attributes_step f i asked =
     if begins_attribute f i
-    then More (both asked (asked_from f (i + 1) (past_group f (i + 1) - (i + 1)))) (past_group f (i + 1))
+    then More (both asked (asked_between f (i + 3) (past_group f (i + 1)))) (past_group f (i + 1))
     else if opens_attribute f i
-    then More (both asked (with_unknown_mode (asked_from f i (past_group f i - i)))) (past_group f i)
+    then More (both asked (with_unknown_mode (asked_between f (i + 2) (past_group f i)))) (past_group f i)
     else Done (record { attributes = asked; end = i })
 
 -- where the attributes have ended

@@ -177,14 +177,22 @@ abbrev pub may_name : Shape → Bool
 may_name shapes.Abstract = false
 may_name _ = true
 
--- In a declarator that may be without a name a parenthesis opens parameters where a specifier or its partner follows it
--- (C11 6.7.6.3, 11); else a declarator.
+abbrev pub begins_parameters : File → Declared → ℕ → Bool
+begins_parameters f seen i = is_close_paren (word_at f i) || begins_specifier f seen i
+
+-- In a declarator that may be without a name a parenthesis opens parameters where a specifier or its partner follows it, attributes
+-- between them aside (C11 6.7.6.3, 11; GCC manual, "Attribute Syntax"); else a declarator.
 abbrev pub opens_declarator : File → Declared → Shape → ℕ → Bool
 opens_declarator f seen shape i =
-    is_open_paren (word_at f i) && (wants_name shape || not (is_close_paren (word_at f (i + 1)) || begins_specifier f seen (i + 1)))
+    is_open_paren (word_at f i) && (wants_name shape || not (begins_parameters f seen (attributes_at f (i + 1)).end))
 
-abbrev parameters_behind : File → ℕ → Option ℕ
+abbrev pub parameters_behind : File → ℕ → Option ℕ
 parameters_behind f i = if is_open_paren (word_at f i) then Some i else None
+
+-- the parameters next to the name: directly behind it, or behind the parentheses around it, which end before the index
+abbrev pub parameters_next : File → ℕ → Option ℕ → Option ℕ
+parameters_next f i None = parameters_behind f i
+parameters_next f i (Some paren) = Some paren
 
 abbrev pub named_by : File → Pointers → Option ℕ → ℕ → Suffixes → Declarator
 named_by f p name i found = record {
@@ -195,16 +203,19 @@ named_by f p name i found = record {
   end = found.end;
 }
 
-abbrev inside_parens : Pointers → ℕ → Suffixes → Option Declarator → Option Declarator
-inside_parens p past found None = None
-inside_parens p past found (Some d) =
-    if d.end + 1 == past then Some (record d { attributes = both p.attributes d.attributes; end = found.end }) else None
+abbrev around : File → Pointers → ℕ → Suffixes → Declarator → Declarator
+around f p past found d =
+    record d { parameters = parameters_next f past d.parameters; attributes = both p.attributes d.attributes; end = found.end }
+
+abbrev inside_parens : File → Pointers → ℕ → Suffixes → Option Declarator → Option Declarator
+inside_parens f p past found None = None
+inside_parens f p past found (Some d) = if d.end + 1 == past then Some (around f p past found d) else None
 
 -- what stands in parentheses is declared with the type that stands around it
 abbrev nested_with : File → Inner → Context → Shape → Pointers → Option Suffixes → Option Declarator
 nested_with f n context shape p None = None
 nested_with f n context shape p (Some found) =
-    inside_parens p (past_group f p.end) found (n.declarator context shape (suffixed_by found.list p.ctype) (p.end + 1))
+    inside_parens f p (past_group f p.end) found (n.declarator context shape (suffixed_by found.list p.ctype) (p.end + 1))
 
 abbrev pub in_parentheses : File → Inner → Context → Shape → Pointers → Option Declarator
 in_parentheses f n context shape p = nested_with f n context shape p (suffixes_at f n context (past_group f p.end))

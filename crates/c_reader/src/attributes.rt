@@ -1,13 +1,13 @@
 //! GNU attributes, as far as they change types (GCC manual, "Attribute Syntax").
 
-ghost use Rattle.std.specs.Prelude.{◌≡◌, ◌+◌, ◌-◌, ◌<◌, ◌≤◌, length, IsTrue, true};
-ghost use Rattle.c_reader.specs.Attributes.{is, asked_by, asked_from, asked_named, attributes_at, attributes_from, attributes_step, begins_attribute, both, both_modes, known, mode_behind, mode_named, no_attributes, opens_attribute, typed_with, with_mode, with_unknown_mode, EndsAt, GoesOn};
+ghost use Rattle.std.specs.Prelude.{◌≡◌, ◌+◌, ◌<◌, ◌≤◌, length, IsTrue, true};
+ghost use Rattle.c_reader.specs.Attributes.{is, asked_between, asked_by, asked_named, attributes_at, attributes_from, attributes_step, begins_attribute, both, both_modes, known, mode_behind, mode_named, no_attributes, opens_attribute, typed_with, with_mode, with_unknown_mode, EndsAt, GoesOn};
 ghost use Rattle.c_reader.specs.Reads.{IsBehind};
 
-use crate::marks::{is_open_bracket, is_open_paren};
+use crate::marks::{is_close_paren, is_open_bracket, is_open_paren};
 use crate::next::Next;
 use c_types::CType;
-use c_words::{Punct, Source, Word};
+use c_words::{Source, Word};
 
 /// The machine mode that attributes ask for.
 #[derive(Clone, Copy, Debug, PartialEq, Eq)]
@@ -147,13 +147,14 @@ fn with_mode(mode: Mode, ctype: CType) -> Option<CType>
     }
 }
 
-/// The mode in the parentheses at the index.
+/// The mode in the parentheses at the index, in which its name stands alone.
 fn mode_behind(source: &Source<'_>, i: usize) -> Mode
     ensures { result ≡ mode_behind source.now i }
 {
-    match source.word(i) {
-        Word::Punct(Punct::OpenParen) => Mode::named(source.bytes(i + 1)),
-        _ => Mode::Other,
+    if is_open_paren(source.word(i)) && is_close_paren(source.word(i + 2)) {
+        Mode::named(source.bytes(i + 1))
+    } else {
+        Mode::Other
     }
 }
 
@@ -202,16 +203,17 @@ fn asked_named(source: &Source<'_>, i: usize) -> Attributes
     nothing
 }
 
-/// What the tokens from one index up to another ask for.
+/// What the list of attributes from one index up to another asks for. In brackets stand arguments, which ask for nothing.
 #[tactic(auto, using(crate::proofs::AttributeLemmas::asked_steps))]
-fn asked_between(source: &Source<'_>, from: usize, to: usize) -> Attributes
-    ensures { result ≡ asked_from source.now from (to - from) }
+fn asked_between(source: &Source<'_>, first: usize, end: usize) -> Attributes
+    requires { end ≤ length source.now.tokens }
+    ensures { result ≡ asked_between source.now first end }
 {
     let mut asked = Attributes::new();
-    let mut i = to;
-    while i > from {
-        i -= 1;
-        asked = asked_by(source, i).both(asked);
+    let mut i = first;
+    while i < end {
+        asked = asked.both(asked_by(source, i));
+        i = source.past(i);
     }
     asked
 }
@@ -243,11 +245,11 @@ fn attributes_step(source: &Source<'_>, i: usize, asked: Attributes) -> Next<Att
 {
     if begins_attribute(source, i) {
         let end = source.past(i + 1);
-        return Next::More(asked.both(asked_between(source, i + 1, end)), end);
+        return Next::More(asked.both(asked_between(source, i + 3, end)), end);
     }
     if opens_attribute(source, i) {
         let end = source.past(i);
-        let more = asked_between(source, i, end).with_unknown_mode();
+        let more = asked_between(source, i + 2, end).with_unknown_mode();
         return Next::More(asked.both(more), end);
     }
     Next::Done(Asked {

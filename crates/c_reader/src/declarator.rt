@@ -1,11 +1,11 @@
 //! Declarators and type names (C11 6.7.6, 6.7.7).
 
 ghost use Rattle.std.specs.Prelude.{◌≡◌, ◌≤◌, ◌<◌, IfOk, IsTrue};
-ghost use Rattle.c_reader.specs.Declarators.{in_parentheses, declarator_at, declarator_behind, named_by, opens_declarator, type_name_at, may_name, wants_name};
+ghost use Rattle.c_reader.specs.Declarators.{begins_parameters, in_parentheses, declarator_at, declarator_behind, named_by, opens_declarator, parameters_behind, parameters_next, type_name_at, may_name, wants_name};
 ghost use Rattle.c_reader.specs.Nesting.{inner};
 ghost use Rattle.c_values.specs.Ends.{Gives};
 
-use crate::attributes::attributes_from;
+use crate::attributes::{attributes_at, attributes_from};
 use crate::grammar::{Context, Declarator, Shape, TypeName};
 use crate::marks::{is_close_paren, is_name, is_open_paren};
 use crate::pointers::{Pointers, pointers_at};
@@ -72,6 +72,13 @@ impl Reader<'_> {
         self.declarator_behind(alloc, depth, context, shape, pointers)
     }
 
+    /// Whether parameters begin at the index, behind their parenthesis and attributes.
+    fn begins_parameters(&self, i: usize) -> bool
+        ensures { result ≡ begins_parameters self.now.source.now self.now.scopes.now i }
+    {
+        is_close_paren(self.source.word(i)) || self.begins_specifier(i)
+    }
+
     /// Whether the parenthesis at the index, if one opens there, has a declarator inside, and not parameters.
     fn opens_declarator(&self, shape: Shape, i: usize) -> bool
         ensures is { result ≡ opens_declarator self.now.source.now self.now.scopes.now shape i }
@@ -79,7 +86,7 @@ impl Reader<'_> {
     {
         is_open_paren(self.source.word(i))
             && (shape.wants_name()
-                || !(is_close_paren(self.source.word(i + 1)) || self.begins_specifier(i + 1)))
+                || !self.begins_parameters(attributes_at(self.source, i + 1).end))
     }
 
     /// The declarator behind its stars.
@@ -111,6 +118,28 @@ impl Reader<'_> {
         Ok(self.named_by(alloc, pointers, None, first, found)?)
     }
 
+    /// The index itself, if a parenthesis opens there, and with it parameters.
+    fn parameters_behind(&self, i: usize) -> Option<usize>
+        ensures { result ≡ parameters_behind self.now.source.now i }
+    {
+        if is_open_paren(self.source.word(i)) {
+            Some(i)
+        } else {
+            None
+        }
+    }
+
+    /// The index of the parenthesis of the parameters next to the name: `inside` the parentheses around it, which end before the
+    /// index, or directly behind these.
+    fn parameters_next(&self, i: usize, inside: Option<usize>) -> Option<usize>
+        ensures { result ≡ parameters_next self.now.source.now i inside }
+    {
+        match inside {
+            Some(paren) => Some(paren),
+            None => self.parameters_behind(i),
+        }
+    }
+
     /// The declarator with that name, and with its parts behind the name from the index on.
     fn named_by(
         &self,
@@ -122,15 +151,10 @@ impl Reader<'_> {
     ) -> Result<Declarator, Memory>
         ensures { IfOk result (λ d. d ≡ named_by self.now.source.now pointers name i found) }
     {
-        let parameters = if is_open_paren(self.source.word(i)) {
-            Some(i)
-        } else {
-            None
-        };
         Ok(Declarator {
             name,
             ctype: suffixed_by(alloc, found.list, pointers.ctype)?,
-            parameters,
+            parameters: self.parameters_behind(i),
             attributes: pointers.attributes,
             end: found.end,
         })
@@ -158,6 +182,7 @@ impl Reader<'_> {
             return Err(TypeEnd::NoType);
         }
         Ok(Declarator {
+            parameters: self.parameters_next(past, inside.parameters),
             attributes: pointers.attributes.both(inside.attributes),
             end: found.end,
             ..inside

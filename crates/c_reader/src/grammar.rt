@@ -71,7 +71,7 @@ pub struct Declarator {
     /// The index of the name's token.
     pub name: Option<usize>,
     pub ctype: CType,
-    /// The index of the parenthesis that opens the parameters directly behind the name.
+    /// The index of the parenthesis that opens the parameters next to the name, parentheses around it aside.
     pub parameters: Option<usize>,
     pub attributes: Attributes,
     pub end: usize,

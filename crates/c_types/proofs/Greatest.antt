@@ -3,8 +3,7 @@ use Rattle.std.proofs.Common.{ℕ, ◌≤◌, List, [], ◌∷◌, map, fold, ma
 use Rattle.std.proofs.lemmas.List.Elements.{All-nil, All-cons, All-head, All-tail, All-map, All-weaker}
 use Rattle.std.proofs.Math.Nat.{le-max_left, le-max_right, max-le}
 use Rattle.c_types.specs.declared.extent.Extent.{Extent}
-use Rattle.c_types.specs.declared.extent.TheConstants.{LARGEST_SIZE}
-use Rattle.c_types.specs.Extents.{IsAlignment, IsExtent}
+use Rattle.c_types.specs.Extents.{IsAlignment, IsExtent, largest_size}
 use Rattle.c_types.specs.Layouts.{greatest_size, greatest_alignment}
 
 pub le-fold : (a : ℕ) (xs : List ℕ) → a ≤ fold max a xs
@@ -21,12 +20,12 @@ all-le-fold of a (m ∷ ms) =
     let first : of m ≤ fold max (max a (of m)) (map of ms) = omega (arith, le-fold (max a (of m)) (map of ms), le-max_right a (of m)) in
     All-cons (λ e. of e ≤ fold max (max a (of m)) (map of ms)) m ms first (all-le-fold of (max a (of m)) ms)
 
-pub greatest_size-le : (ms : List Extent) → All IsExtent ms → greatest_size ms ≤ LARGEST_SIZE
+pub greatest_size-le : (ms : List Extent) → All IsExtent ms → greatest_size ms ≤ largest_size
 greatest_size-le ms all =
     let sizes : List ℕ = map (λ (m : Extent). m.size) ms in
-    let small : All (λ n. n ≤ LARGEST_SIZE) sizes =
-    All-map (λ n. n ≤ LARGEST_SIZE) (λ (m : Extent). m.size) ms (All-weaker IsExtent (λ (m : Extent). m.size ≤ LARGEST_SIZE) (λ m e. e.0) ms all) in
-    fold-le 0 LARGEST_SIZE sizes (omega arith) small
+    let small : All (λ n. n ≤ largest_size) sizes =
+    All-map (λ n. n ≤ largest_size) (λ (m : Extent). m.size) ms (All-weaker IsExtent (λ (m : Extent). m.size ≤ largest_size) (λ m e. e.0) ms all) in
+    fold-le 0 largest_size sizes (omega arith) small
 
 pub IsAlignment-greatest : (ms : List Extent) → All IsExtent ms → IsAlignment (greatest_alignment ms)
 IsAlignment-greatest ms all =

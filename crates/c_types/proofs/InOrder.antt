@@ -4,7 +4,7 @@ use Rattle.std.proofs.lemmas.Bool.Decides.{nat_tests}
 use Rattle.std.proofs.lemmas.List.{at_drop_more}
 use Rattle.std.specs.Int.{next_multiple_of}
 use Rattle.c_types.specs.declared.extent.Extent.{Extent}
-use Rattle.c_types.specs.declared.extent.TheConstants.{LARGEST_SIZE}
+use Rattle.c_types.specs.Extents.{largest_size}
 use Rattle.c_types.specs.Layouts.{offsets_from, end_from, struct_layout, layout_within, greatest_alignment}
 use Rattle.c_types.proofs.Rounded.{le-next_multiple}
 
@@ -20,8 +20,8 @@ pub le-end_from : (end : ℕ) (ms : List Extent) → end ≤ end_from end ms
 le-end_from end [] = omega arith
 le-end_from end (m ∷ ms) = omega (arith, le-end_from (next_multiple_of end m.align + m.size) ms, le-next_multiple end m.align)
 
-layout_within-large : (offsets : List ℕ) (size align : ℕ) → LARGEST_SIZE < size → layout_within offsets size align ≡ None
+layout_within-large : (offsets : List ℕ) (size align : ℕ) → largest_size < size → layout_within offsets size align ≡ None
 layout_within-large offsets size align lt = grind (arith, nat_tests)
 
-pub struct_layout-large : (ms : List Extent) → LARGEST_SIZE < end_from 0 ms → struct_layout ms ≡ None
+pub struct_layout-large : (ms : List Extent) → largest_size < end_from 0 ms → struct_layout ms ≡ None
 struct_layout-large ms lt = layout_within-large _ _ _ (omega (arith, le-next_multiple (end_from 0 ms) (greatest_alignment ms)))

@@ -8,9 +8,8 @@ use Rattle.std.proofs.lemmas.List.{length-replicate}
 use Rattle.std.proofs.lemmas.List.Elements.{All-nil, All-cons, All-head, All-tail, All-map, All-weaker, All-replicate}
 use Rattle.std.proofs.lemmas.List.Kept.{AllPairs-cons}
 use Rattle.c_types.specs.declared.extent.Extent.{Extent}
-use Rattle.c_types.specs.declared.extent.TheConstants.{LARGEST_SIZE}
 use Rattle.c_types.specs.declared.tag.Layout.{Layout}
-use Rattle.c_types.specs.Extents.{IsAlignment, IsExtent}
+use Rattle.c_types.specs.Extents.{IsAlignment, IsExtent, largest_size}
 use Rattle.c_types.specs.Layouts.{Placed, end_of, IsLeastMultiple, FollowOn, IsLaid, IsLaidOut, offsets_from, end_from, layout_within, greatest_alignment, greatest_size, struct_layout, union_layout}
 use Rattle.c_types.proofs.Greatest.{all-le-fold, fold-le, IsAlignment-greatest, least_alignment}
 use Rattle.c_types.proofs.Rounded.{le-next_multiple, next_multiple-mod, next_multiple-least}
@@ -20,7 +19,7 @@ IfSome-layout_within : (P : Layout → Type 0) (offsets : List ℕ) (size align 
     → P (record { offsets = offsets; size = size; align = align }) → IfSome (layout_within offsets size align) P
 IfSome-layout_within P offsets size align p =
     let laid : Layout = record { offsets = offsets; size = size; align = align } in
-    elim (nat_le size LARGEST_SIZE) as (λ (fits : Bool). IfSome (if fits then Some laid else None) P) [ true ↦ p | false ↦ tt ]
+    elim (nat_le size largest_size) as (λ (fits : Bool). IfSome (if fits then Some laid else None) P) [ true ↦ p | false ↦ tt ]
 
 -- ---- structs
 

@@ -7,9 +7,8 @@ use Rattle.std.specs.Option.{option_and_then}
 use Rattle.std.proofs.lemmas.Bool.Decides.{nat_tests}
 use Rattle.std.proofs.lemmas.List.Elements.{All-nil, All-cons, All-head, All-tail, All-map}
 use Rattle.c_types.specs.declared.extent.Extent.{Extent}
-use Rattle.c_types.specs.declared.extent.TheConstants.{LARGEST_SIZE}
 use Rattle.c_types.specs.declared.tag.Layout.{Layout}
-use Rattle.c_types.specs.Extents.{IsAlignment, IsExtent}
+use Rattle.c_types.specs.Extents.{IsAlignment, IsExtent, largest_size}
 use Rattle.c_types.specs.Layouts.{Placed, end_of, AllTooLarge, IsLeastMultiple, FollowOn, IsLaidOut, end_from, layout_until, layout_within, greatest_alignment, greatest_size, struct_layout, union_layout}
 use Rattle.c_types.proofs.Greatest.{all-le-fold, fold-le, IsAlignment-greatest, least_alignment}
 use Rattle.c_types.proofs.Rounded.{le-next_multiple, next_multiple-mod, next_multiple-least}
@@ -55,36 +54,36 @@ size_held joined ms l end sound laid le =
     let multiple : l.size % greatest_alignment ms ≡ 0 = subst (λ (a : ℕ). l.size % a ≡ 0) (same_alignment joined ms l sound laid) laid.multiple in
     next_multiple-least end l.size (greatest_alignment ms) (IsAlignment-greatest ms sound) le multiple
 
-le_from_test : (n : ℕ) → nat_le n LARGEST_SIZE ≡ true → n ≤ LARGEST_SIZE
+le_from_test : (n : ℕ) → nat_le n largest_size ≡ true → n ≤ largest_size
 le_from_test n test = grind (arith, nat_tests)
 
-lt_from_test : (n : ℕ) → nat_le n LARGEST_SIZE ≡ false → LARGEST_SIZE < n
+lt_from_test : (n : ℕ) → nat_le n largest_size ≡ false → largest_size < n
 lt_from_test n test = grind (arith, nat_tests)
 
-none_or_laid : (P : Type 0) (l : Layout) (fits : Bool) → nat_le l.size LARGEST_SIZE ≡ fits → (LARGEST_SIZE < l.size → P)
+none_or_laid : (P : Type 0) (l : Layout) (fits : Bool) → nat_le l.size largest_size ≡ fits → (largest_size < l.size → P)
     → IfNone (if fits then Some l else None) P
 none_or_laid P l true test p = tt
 none_or_laid P l false test p = p (lt_from_test l.size test)
 
-IfNone-layout_within : (P : Type 0) (offsets : List ℕ) (size align : ℕ) → (LARGEST_SIZE < size → P) → IfNone (layout_within offsets size align) P
+IfNone-layout_within : (P : Type 0) (offsets : List ℕ) (size align : ℕ) → (largest_size < size → P) → IfNone (layout_within offsets size align) P
 IfNone-layout_within P offsets size align p =
-    none_or_laid P (record { offsets = offsets; size = size; align = align }) (nat_le size LARGEST_SIZE) refl p
+    none_or_laid P (record { offsets = offsets; size = size; align = align }) (nat_le size largest_size) refl p
 
 IfNone-layout_until : (P : Type 0) (offsets : List ℕ) (end : ℕ) (ms : List Extent)
-    → (LARGEST_SIZE < next_multiple_of end (greatest_alignment ms) → P) → IfNone (layout_until offsets end ms) P
+    → (largest_size < next_multiple_of end (greatest_alignment ms) → P) → IfNone (layout_until offsets end ms) P
 IfNone-layout_until P offsets end ms p = IfNone-layout_within P offsets (next_multiple_of end (greatest_alignment ms)) (greatest_alignment ms) p
 
-laid_fits : (l : Layout) (fits : Bool) → nat_le l.size LARGEST_SIZE ≡ fits
-    → IfSome (if fits then Some l else None) (λ (laid : Layout). laid.size ≤ LARGEST_SIZE)
+laid_fits : (l : Layout) (fits : Bool) → nat_le l.size largest_size ≡ fits
+    → IfSome (if fits then Some l else None) (λ (laid : Layout). laid.size ≤ largest_size)
 laid_fits l true test = le_from_test l.size test
 laid_fits l false test = tt
 
-layout_within-fits : (offsets : List ℕ) (size align : ℕ) → IfSome (layout_within offsets size align) (λ (laid : Layout). laid.size ≤ LARGEST_SIZE)
-layout_within-fits offsets size align = laid_fits (record { offsets = offsets; size = size; align = align }) (nat_le size LARGEST_SIZE) refl
+layout_within-fits : (offsets : List ℕ) (size align : ℕ) → IfSome (layout_within offsets size align) (λ (laid : Layout). laid.size ≤ largest_size)
+layout_within-fits offsets size align = laid_fits (record { offsets = offsets; size = size; align = align }) (nat_le size largest_size) refl
 
 -- A layout is never too large.
 pub fitting : (joined : Bool) (found : Option (List Extent))
-    → IfSome (option_and_then (if joined then union_layout else struct_layout) found) (λ (laid : Layout). laid.size ≤ LARGEST_SIZE)
+    → IfSome (option_and_then (if joined then union_layout else struct_layout) found) (λ (laid : Layout). laid.size ≤ largest_size)
 fitting joined None = tt
 fitting true (Some ms) = layout_within-fits _ (next_multiple_of (greatest_size ms) (greatest_alignment ms)) _
 fitting false (Some ms) = layout_within-fits _ (next_multiple_of (end_from 0 ms) (greatest_alignment ms)) _

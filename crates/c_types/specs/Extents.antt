@@ -7,16 +7,19 @@ use Rattle.c_types.specs.declared.tag.Tags.{Tags}
 use Rattle.c_types.specs.declared.tag.Tag.{Tag}
 use Rattle.c_types.specs.declared.tag.Layout.{Layout}
 use Rattle.c_types.specs.declared.extent.Extent.{Extent}
-use Rattle.c_types.specs.declared.extent.TheConstants.{LARGEST_SIZE}
 use Rattle.c_types.specs.Types.{known_tag}
 
 -- A number of 1 or 2 bytes lies at a multiple of its size, a longer one at a multiple of 4.
 abbrev pub natural_alignment : ℕ → ℕ
 natural_alignment size = if size == 1 then 1 else if size == 2 then 2 else 4
 
+-- the greatest size in bytes: half of the addresses, as gcc has it
+abbrev pub largest_size : ℕ
+largest_size = 2147483647
+
 -- no extent where the size is too large
 abbrev pub extent_within : ℕ → ℕ → Option Extent
-extent_within size align = if nat_le size LARGEST_SIZE then Some (record { size = size; align = align }) else None
+extent_within size align = if nat_le size largest_size then Some (record { size = size; align = align }) else None
 
 -- A struct or union has its layout from the end of its body on.
 abbrev pub known_layout : Tags → ℕ → ℕ → Option Layout
@@ -56,4 +59,4 @@ abbrev pub AllAligned : Tags → Type 0
 AllAligned tags = All (λ (tag : Tag). ForSome tag.layout (λ (l : Layout). IsAlignment l.align)) tags.list
 
 abbrev pub IsExtent : Extent → Type 0
-IsExtent e = (e.size ≤ LARGEST_SIZE) × IsAlignment e.align
+IsExtent e = (e.size ≤ largest_size) × IsAlignment e.align

@@ -9,8 +9,7 @@ use Rattle.c_types.specs.declared.ctype.CType.TheOpen.{CType-F}
 use Rattle.c_types.specs.declared.tag.Tags.{Tags}
 use Rattle.c_types.specs.declared.tag.Layout.{Layout}
 use Rattle.c_types.specs.declared.extent.Extent.{Extent}
-use Rattle.c_types.specs.declared.extent.TheConstants.{LARGEST_SIZE}
-use Rattle.c_types.specs.Extents.{own_extent, IsAlignment}
+use Rattle.c_types.specs.Extents.{own_extent, IsAlignment, largest_size}
 
 -- ---- what each member takes
 
@@ -55,7 +54,7 @@ greatest_alignment ms = fold max 1 (map (λ (m : Extent). m.align) ms)
 -- unless the size passes the greatest
 abbrev pub layout_within : List ℕ → ℕ → ℕ → Option Layout
 layout_within offsets size align =
-    if nat_le size LARGEST_SIZE then Some (record { offsets = offsets; size = size; align = align }) else None
+    if nat_le size largest_size then Some (record { offsets = offsets; size = size; align = align }) else None
 
 -- The size is the least multiple of the alignment that holds all members.
 abbrev pub layout_until : List ℕ → ℕ → List Extent → Option Layout
@@ -114,4 +113,4 @@ IsLaid joined None l = ⊥
 IsLaid joined (Some ms) l = IsLaidOut joined ms l
 
 abbrev pub AllTooLarge : Bool → Option (List Extent) → Type 0
-AllTooLarge joined found = (l : Layout) → IsLaid joined found l → LARGEST_SIZE < l.size
+AllTooLarge joined found = (l : Layout) → IsLaid joined found l → largest_size < l.size

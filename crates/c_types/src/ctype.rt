@@ -56,7 +56,7 @@ impl CType {
     /// The type `T *`. Like each type of more than `MOST_LAYERS` layers it is `Unknown` if `to` has so many.
     pub fn pointer_to(alloc: Global, to: CType) -> Result<CType, Memory>
         ensures is { IfOk result (λ t. t ≡ wrapped CType.Pointer to) }
-        ensures within { layers_of to ≤ MOST_LAYERS → IfOk result (λ t. layers_of t ≤ MOST_LAYERS) }
+        ensures within { layers_of to ≤ 64 → IfOk result (λ t. layers_of t ≤ 64) }
     {
         Ok(boxed(alloc, to)?.map_or(CType::Unknown, CType::Pointer))
     }
@@ -64,7 +64,7 @@ impl CType {
     /// The type `T [length]`, or `T []` without a length; `Unknown` if `element` has `MOST_LAYERS` layers.
     pub fn array_of(alloc: Global, element: CType, length: Option<u64>) -> Result<CType, Memory>
         ensures is { IfOk result (λ t. t ≡ wrapped (λ e. CType.Array e length) element) }
-        ensures within { layers_of element ≤ MOST_LAYERS → IfOk result (λ t. layers_of t ≤ MOST_LAYERS) }
+        ensures within { layers_of element ≤ 64 → IfOk result (λ t. layers_of t ≤ 64) }
     {
         Ok(boxed(alloc, element)?.map_or(CType::Unknown, |e| CType::Array(e, length)))
     }
@@ -72,7 +72,7 @@ impl CType {
     /// The type of an array whose length is written and isn't known; `Unknown` if `element` has `MOST_LAYERS` layers.
     pub fn variable_array_of(alloc: Global, element: CType) -> Result<CType, Memory>
         ensures is { IfOk result (λ t. t ≡ wrapped CType.VariableArray element) }
-        ensures within { layers_of element ≤ MOST_LAYERS → IfOk result (λ t. layers_of t ≤ MOST_LAYERS) }
+        ensures within { layers_of element ≤ 64 → IfOk result (λ t. layers_of t ≤ 64) }
     {
         Ok(boxed(alloc, element)?.map_or(CType::Unknown, CType::VariableArray))
     }
@@ -80,7 +80,7 @@ impl CType {
     /// The type of a function with that result; `Unknown` if `gives` has `MOST_LAYERS` layers.
     pub fn function_giving(alloc: Global, gives: CType) -> Result<CType, Memory>
         ensures is { IfOk result (λ t. t ≡ wrapped CType.Function gives) }
-        ensures within { layers_of gives ≤ MOST_LAYERS → IfOk result (λ t. layers_of t ≤ MOST_LAYERS) }
+        ensures within { layers_of gives ≤ 64 → IfOk result (λ t. layers_of t ≤ 64) }
     {
         Ok(boxed(alloc, gives)?.map_or(CType::Unknown, CType::Function))
     }
@@ -116,7 +116,7 @@ impl CType {
 
 /// The type for one more layer around it, unless it has them all.
 fn boxed(alloc: Global, inner: CType) -> Result<Option<Boxed<CType>>, Memory>
-    ensures { IfOk result (λ b. b ≡ (if nat_lt (layers_of inner) MOST_LAYERS then Some inner else None)) }
+    ensures { IfOk result (λ b. b ≡ (if nat_lt (layers_of inner) 64 then Some inner else None)) }
 {
     if inner.is_within_layers(MOST_LAYERS - 1) {
         Ok(Some(Boxed::new(alloc, inner)?))

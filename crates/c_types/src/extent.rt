@@ -1,5 +1,5 @@
 ghost use Rattle.std.specs.Prelude.{◌≡◌, ◌*◌, ◌≤◌, IfSome};
-ghost use Rattle.c_types.specs.Extents.{natural_alignment, extent_within, own_extent, own_size, own_alignment, IsAlignment, IsExtent, AllAligned};
+ghost use Rattle.c_types.specs.Extents.{natural_alignment, extent_within, own_extent, own_size, own_alignment, IsAlignment, IsExtent, AllAligned, largest_size};
 
 use crate::{CType, Tags};
 
@@ -17,7 +17,7 @@ pub struct Extent {
 /// The bytes of an object of the type. `None` where the type has no size at the offset `place` of the file, or a size on the way to it passes `LARGEST_SIZE`.
 pub fn size_of(t: &CType, tags: &Tags, place: u32) -> Option<u32>
     ensures is { result ≡ own_size tags.now place t.now }
-    ensures within { IfSome result (λ size. size ≤ LARGEST_SIZE) }
+    ensures within { IfSome result (λ size. size ≤ largest_size) }
 {
     Some(extent_of(t, tags, place)?.size)
 }
@@ -33,7 +33,7 @@ pub fn align_of(t: &CType, tags: &Tags, place: u32) -> Option<u32>
 /// The size and the alignment of the type, by the System V ABI for i386. `None` where the type has no size.
 pub fn extent_of(t: &CType, tags: &Tags, place: u32) -> Option<Extent>
     ensures is { result ≡ own_extent tags.now place t.now }
-    ensures within { IfSome result (λ e. e.size ≤ LARGEST_SIZE) }
+    ensures within { IfSome result (λ e. e.size ≤ largest_size) }
     ensures sound { AllAligned tags.now → IfSome result IsExtent }
 {
     match t {

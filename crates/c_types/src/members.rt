@@ -1,5 +1,5 @@
 ghost use Rattle.std.specs.Prelude.{◌≡◌, ℕ, ◌≤◌, All, IfNone, IfOk, IfSome};
-ghost use Rattle.c_types.specs.Extents.{AllAligned, IsAlignment, IsExtent};
+ghost use Rattle.c_types.specs.Extents.{AllAligned, IsAlignment, IsExtent, largest_size};
 ghost use Rattle.c_types.specs.Layouts.{AllTooLarge, IsLaid, extents_of, greatest_alignment, greatest_size, last_extent, layout_of, layout_until, member_extent, struct_layout, union_layout};
 
 use crate::{CType, Extent, LARGEST_SIZE, Layout, Tags, extent_of};
@@ -19,7 +19,7 @@ pub fn layout(
     requires { AllAligned tags.now }
     ensures is { IfOk result (λ l. l ≡ layout_of tags.now place joined members.now) }
     ensures laid { IfOk result (λ l. IfSome l (IsLaid joined (extents_of tags.now place members.now))) }
-    ensures within { IfOk result (λ l. IfSome l (λ laid. laid.size ≤ LARGEST_SIZE)) }
+    ensures within { IfOk result (λ l. IfSome l (λ laid. laid.size ≤ largest_size)) }
     ensures sound { IfOk result (λ l. IfSome l (λ laid. IsAlignment laid.align)) }
 
     // No layout by the rules is small enough where there is none.
@@ -111,7 +111,7 @@ fn union_layout(alloc: Global, members: &[Extent]) -> Result<Option<Layout>, Mem
 /// The layout of a struct or union with these members, the last of which ends at `end`.
 fn layout_until(offsets: Items<u32>, end: u32, members: &[Extent]) -> Option<Layout>
     requires extents { All IsExtent members.now }
-    requires end { end ≤ LARGEST_SIZE }
+    requires end { end ≤ largest_size }
     ensures { result ≡ layout_until offsets end members.now }
 {
     let align = greatest_alignment(members);

@@ -11,7 +11,6 @@ use Rattle.c_values.specs.declared.value.Value.{Value}
 use Rattle.c_values.specs.declared.scalar.Operand.{Operand}
 use Rattle.c_values.specs.declared.scalar.Scalar.{Scalar}
 use Rattle.c_values.specs.declared.scalar.Scalar.TheVariants.{Number, Pointer}
-use Rattle.c_values.specs.declared.member.TheConstants.{DEEPEST}
 use Rattle.c_values.specs.Operands.{operand_of, varying}
 
 abbrev tag_at : CType-F CType → Option ℕ
@@ -50,8 +49,9 @@ member_in zero tags place wanted number = None
 member_in (suc depth) tags place wanted number =
     option_and_then (λ (tag : Tag). first_member (member_in depth tags place wanted) wanted tag.names tag.members) (known_tag tags number place)
 
+-- in an expression of the type; 64 structs and unions around one another are searched (this project's own)
 abbrev pub member_type : Tags → ℕ → List ℕ → CType → Option CType
-member_type tags place wanted t = option_and_then (member_in DEEPEST tags place wanted) (tag_number t)
+member_type tags place wanted t = option_and_then (member_in 64 tags place wanted) (tag_number t)
 
 -- `v.name`
 abbrev pub member_of : Tags → ℕ → List ℕ → Value → Option Value

@@ -4,7 +4,6 @@ use Rattle.c_types.specs.declared.ctype.CType.{CType}
 use Rattle.c_types.specs.declared.ctype.CType as types
 use Rattle.c_values.specs.declared.number_type.NumberType.{NumberType}
 use Rattle.c_values.specs.declared.number_type.NumberType.TheVariants.{Bool as Truth, Int, Enumeration, Float}
-use Rattle.c_values.specs.declared.number_type.TheConstants.{INT}
 use Rattle.c_values.specs.declared.value.Constant.{Constant}
 use Rattle.c_values.specs.declared.value.Constant.TheVariants.{Varies, Undefined, Known, Null}
 use Rattle.c_values.specs.Numbers.{cut, is_zero, truth}
@@ -35,10 +34,13 @@ abbrev pub is_enumeration : NumberType → Bool
 is_enumeration Enumeration = true
 is_enumeration t = false
 
+abbrev pub int : NumberType
+int = Int 4 true
+
 -- Integers shorter than int become int (6.3.1.1, 2). An enumeration stays one: whether it has a sign is the compiler's choice.
 abbrev pub promoted : NumberType → NumberType
-promoted Truth = INT
-promoted (Int size signed) = if nat_lt size 4 then INT else Int size signed
+promoted Truth = int
+promoted (Int size signed) = if nat_lt size 4 then int else Int size signed
 promoted Enumeration = Enumeration
 promoted (Float size) = Float size
 

@@ -6,7 +6,6 @@ use Rattle.c_values.specs.declared.value.Constant.{Constant}
 use Rattle.c_values.specs.declared.value.Constant.TheVariants.{Varies, Known}
 use Rattle.c_values.specs.declared.number_type.NumberType.{NumberType}
 use Rattle.c_values.specs.declared.number_type.NumberType.TheVariants.{Int}
-use Rattle.c_values.specs.declared.number_type.TheConstants.{INT}
 use Rattle.c_values.specs.declared.scalar.Scalar.{Scalar}
 use Rattle.c_values.specs.declared.scalar.Scalar.TheVariants.{Number, Pointer}
 use Rattle.c_values.specs.declared.scalar.Operand.{Operand}
@@ -18,7 +17,7 @@ use Rattle.c_values.specs.declared.operator.Logic.TheVariants as logic
 use Rattle.c_values.specs.declared.operator.Unary.{Unary}
 use Rattle.c_values.specs.declared.operator.Unary.TheVariants as unary
 use Rattle.c_values.specs.Numbers.{is_zero, truth}
-use Rattle.c_values.specs.NumberTypes.{is_integer, promoted, common}
+use Rattle.c_values.specs.NumberTypes.{int, is_integer, promoted, common}
 use Rattle.c_values.specs.Calculations.{computed, computed_unary}
 use Rattle.c_values.specs.Operands.{operand_of, type_of_scalar, is_constant, without_value, constant_of}
 
@@ -43,7 +42,7 @@ abbrev pub calculation_type : Calculation → Scalar → Scalar → Option Scala
 calculation_type op (Number a) (Number b) = if takes op a && takes op b then Some (Number (common a b)) else None
 calculation_type op (Pointer to) (Number b) = if is_additive op && is_integer b then Some (Pointer to) else None
 calculation_type Add (Number a) (Pointer to) = if is_integer a then Some (Pointer to) else None
-calculation_type Subtract (Pointer to) (Pointer from) = Some (Number INT)
+calculation_type Subtract (Pointer to) (Pointer from) = Some (Number int)
 calculation_type op a b = None
 
 -- the promoted left operand's (6.5.7, 3)
@@ -53,16 +52,16 @@ shift_type a b = None
 
 -- int for numbers, pointers, and a pointer with an integer (6.5.8 and 6.5.9)
 abbrev pub comparison_type : Scalar → Scalar → Option Scalar
-comparison_type (Number a) (Number b) = Some (Number INT)
-comparison_type (Pointer to) (Pointer with) = Some (Number INT)
-comparison_type (Pointer to) (Number b) = if is_integer b then Some (Number INT) else None
-comparison_type (Number a) (Pointer to) = if is_integer a then Some (Number INT) else None
+comparison_type (Number a) (Number b) = Some (Number int)
+comparison_type (Pointer to) (Pointer with) = Some (Number int)
+comparison_type (Pointer to) (Number b) = if is_integer b then Some (Number int) else None
+comparison_type (Number a) (Pointer to) = if is_integer a then Some (Number int) else None
 
 abbrev pub binary_type : Binary → Scalar → Scalar → Option Scalar
 binary_type (operators.Calculation op) a b = calculation_type op a b
 binary_type (operators.Shift op) a b = shift_type a b
 binary_type (operators.Comparison op) a b = comparison_type a b
-binary_type (operators.Logic op) a b = Some (Number INT)
+binary_type (operators.Logic op) a b = Some (Number int)
 
 -- ---- constants
 
@@ -102,7 +101,7 @@ binary_of op a b = option_and_then (λ (x : Operand). option_and_then (combined 
 
 -- `!` takes each scalar and gives an int, `~` an integer, `+` and `-` a number (6.5.3.3)
 abbrev pub unary_type : Unary → Scalar → Option NumberType
-unary_type unary.Not s = Some INT
+unary_type unary.Not s = Some int
 unary_type unary.Complement (Number t) = if is_integer t then Some (promoted t) else None
 unary_type unary.Plus (Number t) = Some (promoted t)
 unary_type unary.Minus (Number t) = Some (promoted t)

@@ -1,10 +1,10 @@
-use Rattle.std.proofs.Common.{◌≡◌, ◌≤◌, ◌-◌, ◌⊎◌}
-use Rattle.c_reader.specs.Attributes.{asked_from}
+use Rattle.std.proofs.Common.{◌≡◌, ◌-◌}
+use Rattle.c_reader.specs.Attributes.{asked_between, asked_until}
 use Rattle.c_reader.proofs.attributes.asked_between.Given as goal
 
--- what the tokens from the index on ask for
+-- what is left gives what the whole gives
 abbrev pub invariant-loop-i : goal.invariant-loop-i
-invariant-loop-i l = (l.i ≤ l.to) × (l.asked ≡ asked_from l.source l.i (l.to - l.i)) × (l.i ≡ l.to ⊎ l.from ≤ l.i)
+invariant-loop-i l = asked_until l.source l.end l.i l.asked ≡ asked_between l.source l.first l.end
 
 abbrev pub decreases-loop-i : goal.decreases-loop-i
-decreases-loop-i l = l.i
+decreases-loop-i l = l.end - l.i

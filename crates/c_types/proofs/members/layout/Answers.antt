@@ -1,8 +1,7 @@
 use Rattle.std.proofs.Common.{◌≡◌, ◌≤◌, All, Option, List, IfNone, IfOk, IfSome, rules, subst}
 use Rattle.c_types.specs.declared.extent.Extent.{Extent}
 use Rattle.c_types.specs.declared.tag.Layout.{Layout}
-use Rattle.c_types.specs.declared.extent.TheConstants.{LARGEST_SIZE}
-use Rattle.c_types.specs.Extents.{IsAlignment, IsExtent}
+use Rattle.c_types.specs.Extents.{IsAlignment, IsExtent, largest_size}
 use Rattle.c_types.specs.Layouts.{AllTooLarge, IsLaid, extents_of, layout_of}
 use Rattle.c_types.proofs.Laid.{IsLaid-layout, IsAlignment-layout, IfOk-along}
 use Rattle.c_types.proofs.Unlaid.{fitting, too_large}
@@ -20,7 +19,7 @@ pub returns-then-joined-clause-within : goal.returns-then-joined-clause-within
 returns-then-joined-clause-within c =
     let found : Option (List Extent) = extents_of c.args.tags.now c.args.place c.args.members.now in
     let is : IfOk c.union_layout.result (λ l. l ≡ layout_of c.args.tags.now c.args.place c.args.joined c.args.members.now) = search rules in
-    IfOk-along (λ (l : Option Layout). IfSome l (λ (laid : Layout). laid.size ≤ LARGEST_SIZE)) _ c.union_layout.result (fitting c.args.joined found) is
+    IfOk-along (λ (l : Option Layout). IfSome l (λ (laid : Layout). laid.size ≤ largest_size)) _ c.union_layout.result (fitting c.args.joined found) is
 
 pub returns-then-joined-clause-sound : goal.returns-then-joined-clause-sound
 returns-then-joined-clause-sound c =
@@ -50,7 +49,7 @@ pub returns-clause-within : goal.returns-clause-within
 returns-clause-within c =
     let found : Option (List Extent) = extents_of c.args.tags.now c.args.place c.args.members.now in
     let is : IfOk c.struct_layout.result (λ l. l ≡ layout_of c.args.tags.now c.args.place c.args.joined c.args.members.now) = search rules in
-    IfOk-along (λ (l : Option Layout). IfSome l (λ (laid : Layout). laid.size ≤ LARGEST_SIZE)) _ c.struct_layout.result (fitting c.args.joined found) is
+    IfOk-along (λ (l : Option Layout). IfSome l (λ (laid : Layout). laid.size ≤ largest_size)) _ c.struct_layout.result (fitting c.args.joined found) is
 
 pub returns-clause-sound : goal.returns-clause-sound
 returns-clause-sound c =

@@ -1,7 +1,7 @@
 use Rattle.std.proofs.Common.{◌≡◌, ◌+◌, ◌<◌, ◌∙◌, arith, ap, sym, get_or, drop}
 use Rattle.std.specs.Int.{next_multiple_of}
 use Rattle.c_types.specs.declared.extent.Extent.{Extent}
-use Rattle.c_types.specs.declared.extent.TheConstants.{LARGEST_SIZE}
+use Rattle.c_types.specs.Extents.{largest_size}
 use Rattle.c_types.specs.Layouts.{end_from}
 use Rattle.c_types.proofs.InOrder.{end_from-drop, le-end_from, struct_layout-large}
 use Rattle.c_types.proofs.members.struct_layout.Goals as goal
@@ -18,5 +18,5 @@ returns-then-end-from c =
     let rest = le-end_from (next_multiple_of end member.align + member.size) (drop (k + 1) members) in
     let step = end_from-drop end members k none c.loop-member-test.true in
     let all = c.loop-member.invariant.end in
-    let large : LARGEST_SIZE < end_from 0 members = omega arith in
+    let large : largest_size < end_from 0 members = omega arith in
     sym (struct_layout-large members large)

@@ -1,5 +1,5 @@
 use Rattle.std.proofs.Common.{◌≡◌, ◌≤◌, ◌++◌, drop}
-use Rattle.c_types.specs.declared.extent.TheConstants.{LARGEST_SIZE}
+use Rattle.c_types.specs.Extents.{largest_size}
 use Rattle.c_types.specs.Layouts.{offsets_from, end_from}
 use Rattle.c_types.proofs.members.struct_layout.Given as goal
 
@@ -8,5 +8,5 @@ abbrev pub invariant-loop-member : goal.invariant-loop-member
 invariant-loop-member l = record {
   offsets : l.offsets ++ offsets_from l.end (drop l.member-index l.members) ≡ offsets_from 0 l.members;
   end : end_from l.end (drop l.member-index l.members) ≡ end_from 0 l.members;
-  small : l.end ≤ LARGEST_SIZE;
+  small : l.end ≤ largest_size;
 }
