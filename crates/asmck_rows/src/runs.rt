@@ -60,6 +60,25 @@ pub fn run_with(
     ended(alloc, words, &mut files, failing.sink)
 }
 
+/// Runs asmck with these words after its name, over one file `a.c` of these bytes, and what the named file holds behind
+/// it.
+pub fn run_and_read(
+    alloc: Global,
+    words: &[&str],
+    bytes: &[u8],
+    name: &str,
+    failing: &Failing<'_>,
+) -> Result<(Ending, Option<Vec<u8>>), Memory> {
+    let mut files = MemFiles::new(alloc, failing.files)?;
+    files.put("a.c", bytes)?;
+    let ending = ended(alloc, words, &mut files, failing.sink)?;
+    let held = match files.get(name) {
+        Some(bytes) => Some(bytes.to_vec(alloc)?),
+        None => None,
+    };
+    Ok((ending, held))
+}
+
 /// How a run over these files ends, with a sink whose calls of these numbers fail.
 fn ended<F: Files>(
     alloc: Global,

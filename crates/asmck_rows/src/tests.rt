@@ -1,10 +1,12 @@
 mod calls;
+mod patches;
 mod paths;
 mod rows;
 
-use crate::runs::{Ending, Failing, Held, NOTHING, run_over, run_with};
+use crate::runs::{Ending, Failing, Held, NOTHING, run_and_read, run_over, run_with};
 use asm_core::Memory;
 use calls::{ACCEPTED, BAD, BROKEN, SEVERAL, UNDECIDED, USAGE, USAGES};
+use patches::PATCHES;
 use paths::{PATHS, STRICT};
 use rows::{FILES, INSTRUCTIONS, INTERFACES, JUDGED, OPERANDS, Row};
 use std::alloc::Global;
@@ -263,5 +265,68 @@ fn a_fault_ends_a_run_over_files(rt: HostRuntime) -> Result<(), Fail> {
         b"a.c:1:20: ok\na.c: cannot be read\n".as_slice()
     );
     assert_eq!(rt; read.code, 4);
+    Ok(())
+}
+
+#[test]
+fn files_are_patched(rt: HostRuntime) -> Result<(), Fail> {
+    let alloc = rt.alloc();
+    for row in &PATCHES {
+        let (ending, held) =
+            run_and_read(alloc, row.words, row.text.as_bytes(), "b.c", &NOTHING)?;
+        assert_eq!(rt; ending.printed.as_slice(), row.printed.as_bytes(), "{}", row.text);
+        assert_eq!(rt; ending.code, row.code, "{}", row.text);
+        match (held, row.out) {
+            (Some(held), Some(out)) => assert_eq!(rt; held.as_slice(), out.as_bytes()),
+            (None, None) => {}
+            _ => assert!(rt; false, "{}", row.text),
+        }
+    }
+    Ok(())
+}
+
+#[test]
+fn a_file_is_patched_into_itself(rt: HostRuntime) -> Result<(), Fail> {
+    let alloc = rt.alloc();
+    let first = &PATCHES[0];
+    let words = ["patch", "a.c", "a.c"];
+    let (ending, held) = run_and_read(alloc, &words, first.text.as_bytes(), "a.c", &NOTHING)?;
+    assert_eq!(rt; ending.printed.as_slice(), first.printed.as_bytes());
+    assert_eq!(rt; ending.code, 0);
+    assert_eq!(rt; held.unwrap_or(Vec::new(alloc)).as_slice(), first.out.unwrap_or("").as_bytes());
+    Ok(())
+}
+
+#[test]
+fn a_fault_ends_a_patch(rt: HostRuntime) -> Result<(), Fail> {
+    let alloc = rt.alloc();
+    let first = &PATCHES[0];
+
+    // The file takes an open, two reads and a close, the other one an open, a write and a close.
+    for (call, printed, code) in [
+        (4, "a.c: cannot be read\n", 4),
+        (5, "", 5),
+        (6, "", 5),
+        (7, "", 5),
+        (8, first.printed, 0),
+    ] {
+        let failing = Failing {
+            files: &[call],
+            sink: &[],
+        };
+        let (ending, _) =
+            run_and_read(alloc, first.words, first.text.as_bytes(), "b.c", &failing)?;
+        assert_eq!(rt; ending.printed.as_slice(), printed.as_bytes(), "{call}");
+        assert_eq!(rt; ending.code, code, "{call}");
+    }
+
+    // What can't be told was written.
+    let failing = Failing {
+        files: &[],
+        sink: &[1],
+    };
+    let (ending, held) = run_and_read(alloc, first.words, first.text.as_bytes(), "b.c", &failing)?;
+    assert_eq!(rt; ending.code, 5);
+    assert_eq!(rt; held.unwrap_or(Vec::new(alloc)).as_slice(), first.out.unwrap_or("").as_bytes());
     Ok(())
 }

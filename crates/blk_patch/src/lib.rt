@@ -13,5 +13,6 @@ mod suggestion;
 mod thinning;
 
 pub use editing::edits;
+pub use interface::with_items;
 pub use item::Item;
 pub use patches::{PatchEnd, patch};

@@ -1,5 +1,5 @@
 -- What clap makes of the words.
-use Rattle.std.proofs.Common.{◌≡◌, ℕ, ◌==◌, List, [], ◌∷◌, ◌++◌, fold, codes, option_map, Bool, true, false, not, ◌&&◌, Option, None, Some, slice_index, drop, refl, sym, ◌∙◌, ap, if◌then◌else◌}
+use Rattle.std.proofs.Common.{◌≡◌, inl, inr, ℕ, ◌==◌, List, [], ◌∷◌, ◌++◌, fold, codes, option_map, Bool, true, false, not, ◌&&◌, Option, None, Some, slice_index, drop, refl, sym, subst, ◌∙◌, ap, if◌then◌else◌}
 use Rattle.std.specs.List.{list_all}
 use Rattle.std.proofs.lemmas.List.{append-nil, append_assoc}
 use Rattle.clap.specs.Words.{Rule, Shape, Text, HasMatchesOf, subcommand_of, subcommand_rows_of, is_simple}
@@ -12,7 +12,7 @@ use Rattle.clap.specs.Lexer.{short_of, short_of_rest}
 use Rattle.std.specs.Option.{option_and_then}
 use Rattle.clap.specs.Simple.{built, names_of, entered}
 use Rattle.clap.proofs.OnLiterals.{clap_on_literals}
-use Rattle.ck_app.specs.CommandLine.{asmck_app, file_row, IsCheckCall}
+use Rattle.ck_app.specs.CommandLine.{asmck_app, file_row, IsMode, IsCall}
 use Rattle.ck_app.specs.Words.{is_name}
 
 pub simple : is_simple asmck_app ≡ true
@@ -105,17 +105,38 @@ at_check : walked top_rules top_names (walk_from nothing_held) (codes "check") �
 unfolding clap_on_literals
 at_check = refl
 
-pub check_found : (program file : Text) (files : List Text) → list_all is_name (file ∷ files) ≡ true
+check_found : (program file : Text) (files : List Text) → list_all is_name (file ∷ files) ≡ true
     → subcommand_of asmck_app (program ∷ codes "check" ∷ file ∷ files) ≡ Some (codes "check", file_row (file ∷ files) ∷ [])
 check_found program file files all =
     ap (λ (w : Walk). entered (built asmck_app) w.stopped)
     (ap (λ w. fold (walked top_rules top_names) w (file ∷ files)) at_check ∙ words_behind top_rules top_names (codes "check") (walk_from nothing_held) [] (file ∷ files))
     ∙ ap (λ rows. Some (codes "check", rows)) (found_rows file files all)
 
+at_patch : walked top_rules top_names (walk_from nothing_held) (codes "patch") ≡ stopped_at (walk_from nothing_held) (codes "patch") []
+unfolding clap_on_literals
+at_patch = refl
+
+patch_found : (program file : Text) (files : List Text) → list_all is_name (file ∷ files) ≡ true
+    → subcommand_of asmck_app (program ∷ codes "patch" ∷ file ∷ files) ≡ Some (codes "patch", file_row (file ∷ files) ∷ [])
+patch_found program file files all =
+    ap (λ (w : Walk). entered (built asmck_app) w.stopped)
+    (ap (λ w. fold (walked top_rules top_names) w (file ∷ files)) at_patch ∙ words_behind top_rules top_names (codes "patch") (walk_from nothing_held) [] (file ∷ files))
+    ∙ ap (λ rows. Some (codes "patch", rows)) (found_rows file files all)
+
+mode_found : (program mode file : Text) (files : List Text) → IsMode mode → list_all is_name (file ∷ files) ≡ true
+    → subcommand_of asmck_app (program ∷ mode ∷ file ∷ files) ≡ Some (mode, file_row (file ∷ files) ∷ [])
+mode_found program mode file files (inl is) all =
+    subst (λ (w : Text). subcommand_of asmck_app (program ∷ w ∷ file ∷ files) ≡ Some (w, file_row (file ∷ files) ∷ [])) (sym is)
+    (check_found program file files all)
+mode_found program mode file files (inr is) all =
+    subst (λ (w : Text). subcommand_of asmck_app (program ∷ w ∷ file ∷ files) ≡ Some (w, file_row (file ∷ files) ∷ [])) (sym is)
+    (patch_found program file files all)
+
 -- the matches of a call have its names
-pub call_names : (words : List Text) (m : ArgMatches) → IsCheckCall words → HasMatchesOf asmck_app words m → subcommand_rows_of m ≡ Some (codes "check", file_row (drop 2 words) ∷ [])
+pub call_names : (words : List Text) (m : ArgMatches) → IsCall words → HasMatchesOf asmck_app words m
+    → (mode : Text) × (subcommand_rows_of m ≡ Some (mode, file_row (drop 2 words) ∷ []))
 call_names (program ∷ mode ∷ name ∷ names) m call found =
-    (found simple).1 ∙ ap (λ (w : Text). subcommand_of asmck_app (program ∷ w ∷ name ∷ names)) call.0 ∙ check_found program name names call.1
+    (mode, (found simple).1 ∙ mode_found program mode name names call.0 call.1)
 call_names (program ∷ mode ∷ []) m call found = absurd call.1
 call_names (program ∷ []) m call found = absurd call
 call_names [] m call found = absurd call

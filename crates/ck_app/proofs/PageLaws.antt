@@ -20,7 +20,7 @@ use Rattle.ck_app.specs.declared.status.Status.{Status}
 -- ---- what a page answers
 
 -- a text that isn't too large
-within : (text : List ℕ) → length text ≤ most_bytes → nat_lt most_bytes (length text) ≡ false
+pub within : (text : List ℕ) → length text ≤ most_bytes → nat_lt most_bytes (length text) ≡ false
 within text small = grind (arith, nat_tests)
 
 small_answer : (name text : List ℕ) (js : List Judged) → length text ≤ most_bytes → file_answer name text js ≡ tokens_answer name text (tokens_of text) js
@@ -55,14 +55,14 @@ judged-answer strict name text ts js a small ok judged is = record {
 
 -- ---- the bytes of a file lead to one of these
 
-abbrev is_of_file : Status → Bool
+abbrev pub is_of_file : Status → Bool
 is_of_file Status.Usage = false
 is_of_file Status.ReadFault = false
 is_of_file Status.WriteFault = false
 is_of_file Status.Memory = false
 is_of_file status = true
 
-of_tests : (broken outside : Bool) (printed : List ℕ)
+pub of_tests : (broken outside : Bool) (printed : List ℕ)
     → is_of_file (answer printed (if broken then Status.Rejected else (if outside then Status.Undecided else Status.Done))).status ≡ true
 of_tests true outside printed = refl
 of_tests false true printed = refl
@@ -73,7 +73,7 @@ of_tokens name text (Err end) js = refl
 of_tokens name text (Ok ts) js =
     of_tests (list_any (λ (j : Judged). is_broken j.verdict) js) (list_any (λ (j : Judged). is_outside j.verdict) js) (report_of name text js)
 
-of_either : (b : Bool) (x y : Answer) → is_of_file x.status ≡ true → is_of_file y.status ≡ true → is_of_file (if b then x else y).status ≡ true
+pub of_either : (b : Bool) (x y : Answer) → is_of_file x.status ≡ true → is_of_file y.status ≡ true → is_of_file (if b then x else y).status ≡ true
 of_either true x y h k = h
 of_either false x y h k = k
 
@@ -82,12 +82,13 @@ of_file strict name text a h =
     ap (λ (x : Answer). is_of_file x.status) h.is
     ∙ of_either (nat_lt most_bytes (length text)) (answer (too_large_line name) Status.TooLarge) (tokens_answer name text (tokens_of text) h.judged) refl (of_tokens name text (tokens_of text) h.judged)
 
-module _ (strict : Bool) (name bytes : List ℕ) (old new : Outside) (there : IsTrue old.tells → old.file name ≡ Some bytes) where
-  told : (text : List ℕ) (status : Status) → IsFileAnswer strict name bytes (answer text status) → IsTrue old.tells → IsReadAnswer strict name (old.file name) (answer text status)
-  told text status is tells = subst (λ o. IsReadAnswer strict name o (answer text status)) (sym (there tells)) is
+module _ (Reads : Option (List ℕ) → Answer → Type 0) (name bytes : List ℕ) (old new : Outside)
+    (there : IsTrue old.tells → old.file name ≡ Some bytes) where
+  told : (text : List ℕ) (status : Status) → Reads (Some bytes) (answer text status) → IsTrue old.tells → Reads (old.file name) (answer text status)
+  told text status is tells = subst (λ o. Reads o (answer text status)) (sym (there tells)) is
 
-  -- what was judged is the page of the file
-  page_by_status : (status : Status) (text : List ℕ) → IsFileAnswer strict name bytes (answer text status) → is_of_file status ≡ true → IsPageOf strict status text name old new
+  -- what was made of the bytes is the page of the file
+  pub page_by_status : (status : Status) (text : List ℕ) → Reads (Some bytes) (answer text status) → is_of_file status ≡ true → IsPageOf Reads status text name old new
   page_by_status Status.Usage text is of = cc
   page_by_status Status.ReadFault text is of = cc
   page_by_status Status.WriteFault text is of = cc
@@ -98,8 +99,11 @@ module _ (strict : Bool) (name bytes : List ℕ) (old new : Outside) (there : Is
   page_by_status Status.Undecided text is of = told text Status.Undecided is
   page_by_status Status.TooLarge text is of = told text Status.TooLarge is
 
-  pub judged_page : (status : Status) (text : List ℕ) → IsFileAnswer strict name bytes (answer text status) → IsPageOf strict status text name old new
-  judged_page status text is = page_by_status status text is (of_file strict name bytes (answer text status) is)
+pub judged_page : (strict : Bool) (name bytes : List ℕ) (old new : Outside) → (IsTrue old.tells → old.file name ≡ Some bytes)
+    → (status : Status) (text : List ℕ) → IsFileAnswer strict name bytes (answer text status)
+    → IsPageOf (IsReadAnswer strict name) status text name old new
+judged_page strict name bytes old new there status text is =
+    page_by_status (IsReadAnswer strict name) name bytes old new there status text is (of_file strict name bytes (answer text status) is)
 
 pub too_large_page : (strict : Bool) (name printed : List ℕ) (content : Option (List ℕ)) → IsSomeAnd content (λ bytes. most_bytes < length bytes) → printed ≡ too_large_line name → IsReadAnswer strict name content (answer printed Status.TooLarge)
 too_large_page strict name printed None large same = absurd large

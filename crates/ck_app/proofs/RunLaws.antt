@@ -1,5 +1,5 @@
 -- A run over several files, one file at a time.
-use Rattle.std.proofs.Common.{◌≡◌, ◌⊎◌, inl, inr, ℕ, ◌+◌, ◌<◌, ◌≤◌, List, [], ◌∷◌, ◌++◌, length, take, drop, map, get_or, Option, Some, Bool, true, false, IsTrue, refl, sym, ◌∙◌, ap, subst, arith}
+use Rattle.std.proofs.Common.{◌≡◌, ◌⊎◌, inl, inr, ℕ, ◌+◌, ◌<◌, ◌≤◌, List, [], ◌∷◌, ◌++◌, length, take, drop, map, get_or, Option, None, Some, Bool, true, false, IsTrue, refl, sym, ◌∙◌, ap, subst, arith}
 use Rattle.std.proofs.lemmas.List.{append-nil, append_assoc, length-append, take_more, drop_more, map-append, take-append-drop}
 use Rattle.std.proofs.Math.Seq.{take-append-add}
 use Rattle.asm_core.specs.Lists.{IsMember}
@@ -10,7 +10,7 @@ use Rattle.ck_ports.specs.declared.files.Mode.{Mode}
 use Rattle.ck_app.specs.Answer.{Answer, answer, IsReadAnswer}
 use Rattle.ck_app.specs.FilesAnswer.{ends_run, status_after, answer_after, IsFilesAnswer}
 use Rattle.ck_app.specs.Lines.{cannot_be_read_line}
-use Rattle.ck_app.specs.Run.{Tells, KeepsOutside, HasReadFault, CountsReads, IsReadFaultText, Begins, IsFirstReports, PrintsPart, PrintsReadFault, GivesAnswer, Prints, HasCause, PrintsFile, PrintsFilePart, IsFileBegun, HasFileCause, IsComplete, RunsFile, RunsFiles}
+use Rattle.ck_app.specs.Run.{Tells, KeepsOutside, HasReadFault, CountsReads, IsReadFaultText, Begins, IsFirstReports, PrintsPart, PrintsReadFault, GivesAnswer, Prints, HasCause, PrintsFile, PrintsFilePart, IsFileBegun, HasFileCause, HasWriteFault, RoseInWriting, IsComplete, RunsFile, RunsFiles}
 use Rattle.ck_app.specs.Words.{Command}
 use Rattle.ck_app.specs.declared.status.Status.{Status}
 use Rattle.ck_app.proofs.FilesLaws.{goes_on_after, no_files, one_file, last_file, files_append}
@@ -116,7 +116,7 @@ going_start strict old before closed = record {
 }
 
 pub going_done : (strict : Bool) (names : List (List ℕ)) (status : Status) (old mid : Outside) (before out : Written) → Going strict names status old mid before out → RunsFiles strict names status old mid before out
-going_done strict names status old mid before out g = record { kept = g.kept; reading = g.reading; prints = λ told. by_status status g.goes_on (g.prints told); cause = cause_of status g.goes_on }
+going_done strict names status old mid before out g = record { kept = g.kept; reading = g.reading; prints = λ told. by_status status g.goes_on (g.prints told); cause = cause_of status g.goes_on; leaves = λ told. tt }
   where
     by_status : (s : Status) → ends_run s ≡ false → GivesAnswer (IsFilesAnswer strict old.file names) s before out → Prints s (Some (Command.Check strict names)) old mid before out
     by_status Status.Done on a = a
@@ -141,7 +141,7 @@ module _ (strict : Bool) (firsts : List (List ℕ)) (name : List ℕ) (status he
 
   -- ---- the file lets the run go on
 
-  given : (s : Status) → ends_run s ≡ false → PrintsFile strict name s mid new out after → GivesAnswer (IsReadAnswer strict name (mid.file name)) s out after
+  given : (s : Status) → ends_run s ≡ false → PrintsFile (IsReadAnswer strict name) name s mid new out after → GivesAnswer (IsReadAnswer strict name (mid.file name)) s out after
   given Status.Done on p = p
   given Status.Rejected on p = p
   given Status.Undecided on p = p
@@ -208,7 +208,7 @@ module _ (strict : Bool) (firsts : List (List ℕ)) (name : List ℕ) (status he
           prints = writes_on w.whole.printed f.whole.printed before out after w.prints f.prints;
         }
 
-    begun : (w : SoFar) (text : List ℕ) → IsFileBegun strict name mid new text → IsFirstReports strict all old (w.whole.printed ++ text) ⊎ IsReadFaultText strict all old new (w.whole.printed ++ text)
+    begun : (w : SoFar) (text : List ℕ) → IsFileBegun (IsReadAnswer strict name) name mid new text → IsFirstReports strict all old (w.whole.printed ++ text) ⊎ IsReadFaultText strict all old new (w.whole.printed ++ text)
     begun w text (inl none) = inl (first_reports strict firsts (name ∷ others) old w.whole _ w.is (ap (λ t. w.whole.printed ++ t) none ∙ append-nil w.whole.printed))
     begun w text (inr (inl a)) =
         let both = files_append strict old.file firsts (name ∷ []) w.whole a.0 w.is (so_far_on w) (one_file strict old.file name a.0 (as_before a.0 a.1)) in
@@ -216,14 +216,14 @@ module _ (strict : Bool) (firsts : List (List ℕ)) (name : List ℕ) (status he
         (first_reports strict (firsts ++ name ∷ []) others old (answer_after w.whole a.0) _ both (ap (λ t. w.whole.printed ++ t) a.2)))
     begun w text (inr (inr f)) = inr (subst (λ t. IsReadFaultText strict all old new (w.whole.printed ++ t)) (sym f.0) (fault_text w f.1))
 
-    after_part : SoFar → PrintsFilePart strict name mid new out after → PrintsPart (Some (Command.Check strict all)) old new before after
+    after_part : SoFar → PrintsFilePart (IsReadAnswer strict name) name mid new out after → PrintsPart (Some (Command.Check strict all)) old new before after
     after_part w p = record {
       text = w.whole.printed ++ p.text;
       is = begun w p.text p.is;
       part = prefix_on w.whole.printed p.text before out after w.prints p.part;
     }
 
-    end_prints : (s : Status) → ends_run s ≡ true → HasFileCause s name mid new out after → SoFar → PrintsFile strict name s mid new out after
+    end_prints : (s : Status) → ends_run s ≡ true → HasFileCause s name mid new out after → SoFar → PrintsFile (IsReadAnswer strict name) name s mid new out after
         → Prints s (Some (Command.Check strict all)) old new before after
     end_prints Status.Usage e cause w p = absurd cause
     end_prints Status.ReadFault e cause w p = after_fault w cause p
@@ -249,6 +249,7 @@ module _ (strict : Bool) (firsts : List (List ℕ)) (name : List ℕ) (status he
       reading = counts_on firsts name others old mid new g.kept.files_tell g.reading h.reading;
       prints = λ told. end_prints here e h.cause (g.prints told) (h.prints (middle told));
       cause = end_cause here e h.cause;
+      leaves = λ told. tt;
     }
 
 -- where memory ran out before any file was read
@@ -262,22 +263,32 @@ nothing_run strict names old before closed = record {
     part = nothing_written [] before;
   };
   cause = tt;
+  leaves = λ told. tt;
 }
 
 -- ---- the whole run
 
+-- a write fault is counted
+write_fault : (command : Option Command) (old new : Outside) (before after : Written) → HasWriteFault command old new before after
+    → (Rose before.faults after.faults → ⊥) → (RoseInWriting command old new → ⊥) → ⊥
+write_fault None old new before after cause no_write no_writing = no_write cause
+write_fault (Some (Command.Check strict names)) old new before after cause no_write no_writing = no_write cause
+write_fault (Some (Command.Patch strict input output)) old new before after (inl rose) no_write no_writing = no_write rose
+write_fault (Some (Command.Patch strict input output)) old new before after (inr rises) no_write no_writing = no_writing rises.rose
+
 -- without a fault a run gives its answer
 pub complete : (status : Status) (command : Option Command) (old new : Outside) (before after : Written) → HasCause status command old new before after
     → Prints status command old new before after → IsComplete status command old new before after
-complete Status.ReadFault command old new before after cause prints = λ no_read no_write. absurd (no_read cause.rises.rose)
-complete Status.WriteFault command old new before after cause prints = λ no_read no_write. absurd (no_write cause)
-complete Status.Memory command old new before after cause prints = λ no_read no_write. inl refl
-complete Status.Usage command old new before after cause prints = λ no_read no_write. inr prints
-complete Status.Done command old new before after cause prints = λ no_read no_write. inr prints
-complete Status.Rejected command old new before after cause prints = λ no_read no_write. inr prints
-complete Status.Undecided command old new before after cause prints = λ no_read no_write. inr prints
-complete Status.BadText command old new before after cause prints = λ no_read no_write. inr prints
-complete Status.TooLarge command old new before after cause prints = λ no_read no_write. inr prints
+complete Status.ReadFault command old new before after cause prints = λ no_read no_write no_writing. absurd (no_read cause.rises.rose)
+complete Status.WriteFault command old new before after cause prints = λ no_read no_write no_writing.
+    absurd (write_fault command old new before after cause no_write no_writing)
+complete Status.Memory command old new before after cause prints = λ no_read no_write no_writing. inl refl
+complete Status.Usage command old new before after cause prints = λ no_read no_write no_writing. inr prints
+complete Status.Done command old new before after cause prints = λ no_read no_write no_writing. inr prints
+complete Status.Rejected command old new before after cause prints = λ no_read no_write no_writing. inr prints
+complete Status.Undecided command old new before after cause prints = λ no_read no_write no_writing. inr prints
+complete Status.BadText command old new before after cause prints = λ no_read no_write no_writing. inr prints
+complete Status.TooLarge command old new before after cause prints = λ no_read no_write no_writing. inr prints
 
 -- ---- the names, one at a time
 

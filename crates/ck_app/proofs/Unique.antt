@@ -21,6 +21,7 @@ use Rattle.ck_app.specs.Judgement.{interface_in, IsVerdictBy, IsBodyVerdict, IsJ
 use Rattle.ck_app.specs.Lines.{too_large_line}
 use Rattle.ck_app.specs.Run.{Begins}
 use Rattle.ck_app.specs.Words.{Command}
+use Rattle.ck_app.proofs.PatchUnique.{one_patch_answer}
 use Rattle.ck_report.specs.declared.reports.Judged.{Judged}
 use Rattle.ck_app.specs.declared.status.Status.{Status}
 
@@ -115,3 +116,4 @@ module _ (strict : Bool) (files : List ℕ → Option (List ℕ)) where
 pub one_command_answer : (command : Option Command) (files : List ℕ → Option (List ℕ)) (a b : Answer) → IsCommandAnswer command files a → IsCommandAnswer command files b → a ≡ b
 one_command_answer None files a b g h = g ∙ sym h
 one_command_answer (Some (Command.Check strict names)) files a b g h = one_files_answer strict files names a b g h
+one_command_answer (Some (Command.Patch strict input output)) files a b g h = one_patch_answer strict input (files input) a b g h

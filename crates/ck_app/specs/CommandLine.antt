@@ -1,5 +1,5 @@
 -- The command line as clap sees it.
-use Rattle.std.specs.Prelude.{◌≡◌, ℕ, List, ◌∷◌, None, Some, codes, true}
+use Rattle.std.specs.Prelude.{◌≡◌, ◌⊎◌, ℕ, List, ◌∷◌, None, Some, codes, true}
 use Rattle.clap.specs.Words.{App, Row, Rule, new_app, new_rule, with_rule, with_subcommand}
 use Rattle.clap.specs.Values.{reading_of}
 use Rattle.clap.specs.declared.builder.value_parser.ValueParser.TheVariants as parsers
@@ -13,9 +13,14 @@ file_rule = record (new_rule (codes "FILE")) {
   required = true;
 }
 
--- `asmck check FILE..`
+-- a mode, behind which names of files stand
+abbrev pub mode_app : List ℕ → App
+mode_app name = with_rule (new_app name) file_rule
+
+-- `asmck check FILE..` and `asmck patch FILE..`
 abbrev pub asmck_app : App
-asmck_app = with_subcommand (new_app (codes "asmck")) (with_rule (new_app (codes "check")) file_rule).top
+asmck_app =
+    with_subcommand (with_subcommand (new_app (codes "asmck")) (mode_app (codes "check")).top) (mode_app (codes "patch")).top
 
 -- what is found of `FILE..`
 abbrev pub file_row : List (List ℕ) → Row
@@ -27,7 +32,10 @@ file_row names = record {
   reading = reading_of parsers.String;
 }
 
+abbrev pub IsMode : List ℕ → Type 0
+IsMode mode = (mode ≡ codes "check") ⊎ (mode ≡ codes "patch")
+
 -- the program's name, the mode, and names, of which there is one
-abbrev pub IsCheckCall : List (List ℕ) → Type 0
-IsCheckCall (program ∷ mode ∷ names) = (mode ≡ codes "check") × AreNames names
-IsCheckCall words = ⊥
+abbrev pub IsCall : List (List ℕ) → Type 0
+IsCall (program ∷ mode ∷ names) = IsMode mode × AreNames names
+IsCall words = ⊥

@@ -1,6 +1,7 @@
 -- What a run prints of several files and how it ends: in their order, and the first that ends the run is the last.
 use Rattle.std.specs.Prelude.{◌≡◌, ℕ, List, [], ◌∷◌, ◌++◌, Bool, true, false, Option, None, Some}
 use Rattle.ck_app.specs.Answer.{Answer, answer, IsReadAnswer}
+use Rattle.ck_app.specs.PatchAnswer.{IsPatchAnswer}
 use Rattle.ck_app.specs.Words.{Command, command_of, usage_line}
 use Rattle.ck_app.specs.declared.status.Status.{Status}
 
@@ -39,6 +40,7 @@ IsFilesAnswer strict files (name ∷ names) a =
 abbrev pub IsCommandAnswer : Option Command → (List ℕ → Option (List ℕ)) → Answer → Type 0
 IsCommandAnswer None files a = a ≡ answer usage_line Status.Usage
 IsCommandAnswer (Some (Command.Check strict names)) files a = IsFilesAnswer strict files names a
+IsCommandAnswer (Some (Command.Patch strict input output)) files a = IsPatchAnswer strict input (files input) a
 
 -- what the words ask for, where the named files hold these bytes
 abbrev pub IsAnswer : List (List ℕ) → (List ℕ → Option (List ℕ)) → Answer → Type 0

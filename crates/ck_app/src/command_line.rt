@@ -2,17 +2,17 @@
 
 ghost use Rattle.std.specs.Prelude.{◌≡◌, ◌∷◌, [], List, ℕ, Some, map, drop, codes, option_map, IfOk};
 ghost use Rattle.std.specs.String.{string_bytes};
-ghost use Rattle.clap.specs.Words.{app_of, subcommand_rows_of, HasMatchesOf};
-ghost use Rattle.ck_app.specs.CommandLine.{asmck_app, file_row, IsCheckCall};
+ghost use Rattle.clap.specs.Words.{app_of, new_app, with_rule, subcommand_rows_of, HasMatchesOf};
+ghost use Rattle.ck_app.specs.CommandLine.{asmck_app, file_rule, file_row, IsCall};
 
-use crate::words::Check;
+use crate::words::{Check, Patch};
 use asm_core::Memory;
 use clap::error::ErrorKind;
 use clap::{Arg, ArgMatches, Command, Error};
 use std::alloc::{AllocError, Global};
 
 /// The words of a call that checks these files, without the word that asks for the strict rule.
-pub fn call_words<'a>(alloc: Global, check: Check<'a>) -> Result<Vec<&'a str>, Memory>
+pub fn check_words<'a>(alloc: Global, check: Check<'a>) -> Result<Vec<&'a str>, Memory>
     ensures { IfOk result (λ words. map (λ word. word.now) words.items
         ≡ codes "asmck" ∷ codes "check" ∷ map string_bytes check.entry.files.now) }
 {
@@ -25,9 +25,22 @@ pub fn call_words<'a>(alloc: Global, check: Check<'a>) -> Result<Vec<&'a str>, M
     Ok(words)
 }
 
+/// The words of a call that patches this file, without the word that asks for the strict rule.
+pub fn patch_words<'a>(alloc: Global, patch: Patch<'a>) -> Result<Vec<&'a str>, Memory>
+    ensures { IfOk result (λ words. map (λ word. word.now) words.items
+        ≡ codes "asmck" ∷ codes "patch" ∷ patch.entry.input.now ∷ patch.entry.output.now ∷ []) }
+{
+    let mut words = Vec::new(alloc);
+    words.push("asmck")?;
+    words.push("patch")?;
+    words.push(patch.input)?;
+    words.push(patch.output)?;
+    Ok(words)
+}
+
 /// The names of the files in the words of such a call.
 pub fn file_names<'a>(alloc: Global, words: &'a [&'a str]) -> Result<Vec<&'a str>, Memory>
-    requires { IsCheckCall (map (λ word. word.now) words.now) }
+    requires { IsCall (map (λ word. word.now) words.now) }
     ensures { IfOk result (λ names. map (λ name. name.now) names.items ≡ drop 2 (map (λ word. word.now) words.now)) }
 {
     match parsed(alloc, words) {
@@ -44,7 +57,7 @@ pub fn file_names<'a>(alloc: Global, words: &'a [&'a str]) -> Result<Vec<&'a str
 
 /// The names as they stand behind the program's name and the mode.
 fn by_place<'a>(alloc: Global, words: &[&'a str]) -> Result<Vec<&'a str>, Memory>
-    requires { IsCheckCall (map (λ word. word.now) words.now) }
+    requires { IsCall (map (λ word. word.now) words.now) }
     ensures { IfOk result (λ names. map (λ name. name.now) names.items ≡ drop 2 (map (λ word. word.now) words.now)) }
 {
     copied(alloc, &words[2..])
@@ -67,14 +80,24 @@ fn parsed<'a>(alloc: Global, words: &'a [&'a str]) -> Result<ArgMatches<'a>, Err
 fn asmck<'a>(alloc: Global) -> Result<Command<'a>, AllocError>
     ensures { IfOk result (λ command. app_of command ≡ asmck_app) }
 {
-    let file = Arg::new(alloc, "FILE").num_args(1..).required(true);
-    let check = Command::new(alloc, "check").arg(file)?;
-    Command::new(alloc, "asmck").subcommand(check)
+    let check = mode(alloc, "check")?;
+    let patch = mode(alloc, "patch")?;
+    Command::new(alloc, "asmck")
+        .subcommand(check)?
+        .subcommand(patch)
 }
 
-/// The names of the files to check among what clap found.
+/// A mode, behind which names of files stand.
+fn mode<'a>(alloc: Global, name: &'static str) -> Result<Command<'a>, AllocError>
+    ensures { IfOk result (λ command. app_of command ≡ with_rule (new_app name.now) file_rule) }
+{
+    let file = Arg::new(alloc, "FILE").num_args(1..).required(true);
+    Command::new(alloc, name).arg(file)
+}
+
+/// The names of files among what clap found.
 fn names_in<'m, 'a>(matches: &'m ArgMatches<'a>) -> Option<&'m [&'a str]>
-    ensures { (names : List (List ℕ)) → subcommand_rows_of matches.now ≡ Some (codes "check", file_row names ∷ [])
+    ensures { (mode : List ℕ) (names : List (List ℕ)) → subcommand_rows_of matches.now ≡ Some (mode, file_row names ∷ [])
         → option_map (λ found. map (λ name. name.now) found.now) result ≡ Some names }
 {
     let (_, found) = matches.subcommand()?;

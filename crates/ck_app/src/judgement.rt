@@ -1,19 +1,16 @@
 //! The verdicts on the asm statements of a file.
 
-ghost use Rattle.std.specs.Prelude.{◌≡◌, ◌++◌, map, length, IfOk, OnOk, All};
+ghost use Rattle.std.specs.Prelude.{◌≡◌, length, IfOk, All};
 ghost use Rattle.std.specs.List.{list_any};
-ghost use Rattle.asm_core.specs.Parts.{IsParts, IsBody};
-ghost use Rattle.asm_core.specs.declared.statement.Body.{Body};
+ghost use Rattle.asm_core.specs.Parts.{IsBody};
 ghost use Rattle.c_tokens.specs.Cut.{IsOrdered};
-ghost use Rattle.c_exprs.specs.Operands.{operand_of};
 ghost use Rattle.ck_app.specs.Answer.{status_of};
-ghost use Rattle.ck_app.specs.Judgement.{operands_of, interface_in, IsJudgement, IsVerdictBy, AreJudged, is_broken, is_outside};
+ghost use Rattle.ck_app.specs.Judgement.{IsJudgement, AreJudged, is_broken, is_outside};
 
 use crate::Status;
-use asm_constraints::interface;
-use asm_core::{Body, IfaceEnd, Items, Memory, Operand, Part, Parts, Statement};
-use blk_check::{Verdict, check};
-use c_exprs::operand_in;
+use crate::told::tell;
+use asm_core::{Items, Memory, Statement};
+use blk_check::Verdict;
 use c_scopes::Scopes;
 use c_words::Source;
 use ck_report::Judged;
@@ -42,6 +39,7 @@ pub fn judge_statements(
     Ok(judged)
 }
 
+#[tactic(auto, using(crate::proofs::ToldLaws::judged_of_told))]
 fn judge_statement(
     alloc: Global,
     source: &Source<'_>,
@@ -53,78 +51,8 @@ fn judge_statement(
     requires parts { IsBody statement.now.body }
     ensures { IfOk result (IsJudgement strict source.now scopes.now statement.now) }
 {
-    match &statement.body {
-        Body::Parts(parts) => judge_parts(alloc, source, scopes, statement, parts, strict),
-        Body::Outside(mark) => Ok(Verdict::Outside(*mark)),
-    }
-}
-
-/// The verdict on a statement that has these parts.
-#[tactic(auto, using(crate::proofs::JudgementLaws::stated))]
-fn judge_parts(
-    alloc: Global,
-    source: &Source<'_>,
-    scopes: &Scopes,
-    statement: &Statement,
-    parts: &Parts,
-    strict: bool,
-) -> Result<Verdict, Memory>
-    requires ordered { IsOrdered 0 source.now.tokens (length source.now.text) }
-    requires parts { IsParts parts.now }
-    requires body { statement.now.body ≡ Body.Parts parts.now }
-    ensures { IfOk result (IsVerdictBy statement.now (interface_in strict source.now scopes.now parts.now)) }
-{
-    let operands = operands(alloc, source, scopes, parts)?;
-    match interface(alloc, parts, operands.as_slice(), strict) {
-        Ok(interface) => check(alloc, statement, &interface),
-        Err(IfaceEnd::Outside(mark)) => Ok(Verdict::Outside(mark)),
-        Err(IfaceEnd::Broken(findings)) => Ok(Verdict::Broken(findings)),
-        Err(IfaceEnd::Memory) => Err(Memory),
-    }
-}
-
-/// What the expressions of the operands are, outputs first; none of one without a type.
-fn operands(
-    alloc: Global,
-    source: &Source<'_>,
-    scopes: &Scopes,
-    parts: &Parts,
-) -> Result<Items<Option<Operand>>, Memory>
-    requires { IsOrdered 0 source.now.tokens (length source.now.text) }
-    ensures { IfOk result (λ operands. operands ≡ operands_of source.now scopes.now parts.now) }
-{
-    let mut operands = Items::new(alloc);
-    append_operands(
-        alloc,
-        source,
-        scopes,
-        &mut operands,
-        parts.outputs.as_slice(),
-    )?;
-    append_operands(
-        alloc,
-        source,
-        scopes,
-        &mut operands,
-        parts.inputs.as_slice(),
-    )?;
-    Ok(operands)
-}
-
-fn append_operands(
-    alloc: Global,
-    source: &Source<'_>,
-    scopes: &Scopes,
-    operands: &mut Items<Option<Operand>>,
-    parts: &[Part],
-) -> Result<(), Memory>
-    requires { IsOrdered 0 source.now.tokens (length source.now.text) }
-    ensures { OnOk result (operands.new ≡ operands.old ++ map (λ (p : Part). operand_of source.now scopes.now p.expr) parts.now) }
-{
-    for part in parts {
-        operands.push(operand_in(alloc, source, scopes, part.expr)?)?;
-    }
-    Ok(())
+    let told = tell(alloc, source, scopes, statement, strict)?;
+    Ok(told.verdict)
 }
 
 /// How a run ends that says this of the statements of a file.

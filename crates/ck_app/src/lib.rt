@@ -2,11 +2,20 @@
 #![tactic(auto)]
 
 mod command_line;
+mod expected;
 mod judge;
 mod judgement;
 mod lines;
+mod meeting;
+mod mending;
+mod patch_run;
+mod patching;
+mod printing;
+mod rewriting;
 mod runner;
+mod same;
 mod status;
+mod told;
 mod words;
 
 pub use runner::run;

@@ -1,4 +1,6 @@
-ghost use Rattle.std.specs.Prelude.{◌≡◌, ◌≤◌, true, map, Some, IfOk};
+//! What a call of asmck does.
+
+ghost use Rattle.std.specs.Prelude.{◌≡◌, map, IsTrue, IfOk};
 ghost use Rattle.std.specs.String.{string_bytes};
 ghost use Rattle.ck_ports.specs.declared.files.Mode.TheVariants.{Closed};
 ghost use Rattle.ck_ports.specs.Faults.{CountsAt};
@@ -6,23 +8,27 @@ ghost use Rattle.ck_ports.specs.Outside.{SameFiles};
 ghost use Rattle.ck_app.specs.FilesAnswer.{IsAnswer};
 ghost use Rattle.ck_app.specs.Framed.{AcceptedAreFramed};
 ghost use Rattle.ck_app.specs.Words.{AreNames, command_of, names_read};
-ghost use Rattle.ck_app.specs.Run.{Tells, Prints, HasOneAnswer, HasCause, IsComplete, CountsReads, KeepsOutside, RunsFiles, RunsFile, IsPageOf, IsPrinted, is_page_status};
+ghost use Rattle.ck_app.specs.Answer.{IsReadAnswer};
+ghost use Rattle.ck_app.specs.Run.{Tells, Prints, HasOneAnswer, HasCause, IsComplete, CountsReads, Keeps, Leaves, Runs, RunsFiles, RunsFile, IsPageOf};
 
 use crate::Status;
-use crate::command_line::{call_words, file_names};
+use crate::command_line::{check_words, file_names};
 use crate::judge::{Page, judge};
 use crate::lines::{cannot_be_read_line, too_large_line};
-use crate::words::{Check, asked_check};
+use crate::patch_run::patch_named;
+use crate::printing::print;
+use crate::words::{Asked, Check, read_words};
 use asm_core::Memory;
-use ck_ports::{Files, PortEnd, ReadEnd, Sink, read_all, write_all};
+use ck_ports::{Files, ReadEnd, Sink, read_all};
 use std::alloc::Global;
 
 const USAGE: &str =
-    "usage: asmck MODE [--strict-cc] ARGS: check FILE.. | patch IN OUT | lift IN OUT | try FILE K SEED STEPS | gen SEED COUNT\n";
+    "usage: asmck MODE [--strict-cc] ARGS: check FILE.. | patch IN OUT\n";
 
 /// Does what the words ask for, the first of them being the program's name, and prints to `out`.
 ///
-/// Files are taken in their order, and each is read whole and closed before anything is printed of it. `files` is
+/// Files are taken in their order, and each is read whole and closed before anything is printed of it. A file that is
+/// patched is read whole before the other is written, and that before anything is printed; so they may be one. `files` is
 /// closed again after every answer. A fault of the files or of the output, a file that is too large or no text, and
 /// want of memory end the run at once; what was printed stays.
 pub fn run<F: Files, K: Sink>(alloc: Global, words: &[String], files: &mut F, out: &mut K) -> Status
@@ -48,13 +54,29 @@ pub fn run<F: Files, K: Sink>(alloc: Global, words: &[String], files: &mut F, ou
         → IsComplete result (command_of (map string_bytes words.now))
         (F.outside files.old) (F.outside files.new) (K.written out.old) (K.written out.new) }
 
-    // No file is changed, all are closed, and only files that the words tell to read could not be read.
-    ensures kept { KeepsOutside (F.outside files.old) (F.outside files.new) (K.written out.old) (K.written out.new) }
+    // No file is changed but OUT, all are closed, and only files that the words tell to read could not be read.
+    ensures kept { Keeps (command_of (map string_bytes words.now))
+        (F.outside files.old) (F.outside files.new) (K.written out.old) (K.written out.new) }
+
+    // OUT holds the patched text, unless something was refused.
+    ensures leaves { IsTrue (F.outside files.old).tells → Leaves result (command_of (map string_bytes words.now))
+        (F.outside files.old) (F.outside files.new) }
     ensures reading { CountsReads (names_read (command_of (map string_bytes words.now)))
         (F.outside files.old) (F.outside files.new) }
 {
-    match asked_check(words) {
-        Some(check) => check_named(alloc, check, files, out),
+    ran(alloc, words, files, out)
+}
+
+/// The run that the words ask for.
+fn ran<F: Files, K: Sink>(alloc: Global, words: &[String], files: &mut F, out: &mut K) -> Status
+    requires { (F.outside files.old).mode ≡ Closed }
+
+    ensures { Runs (command_of (map string_bytes words.now)) result
+        (F.outside files.old) (F.outside files.new) (K.written out.old) (K.written out.new) }
+{
+    match read_words(words) {
+        Some(Asked::Check(check)) => check_named(alloc, check, files, out),
+        Some(Asked::Patch(patch)) => patch_named(alloc, patch, files, out),
         None => print(out, USAGE.as_bytes(), Status::Usage),
     }
 }
@@ -72,7 +94,7 @@ fn check_named<F: Files, K: Sink>(
     ensures { RunsFiles check.entry.strict (map string_bytes check.entry.files.now) result
         (F.outside files.old) (F.outside files.new) (K.written out.old) (K.written out.new) }
 {
-    let Ok(words) = call_words(alloc, check) else {
+    let Ok(words) = check_words(alloc, check) else {
         return Status::Memory;
     };
     match file_names(alloc, words.as_slice()) {
@@ -128,7 +150,7 @@ fn check_file<F: Files, K: Sink>(
 fn page_of<F: Files>(alloc: Global, strict: bool, name: &str, files: &mut F) -> Result<Page, Memory>
     requires { (F.outside files.old).mode ≡ Closed }
 
-    ensures page { IfOk result (λ page. IsPageOf strict page.status (string_bytes page.text) name.now
+    ensures page { IfOk result (λ page. IsPageOf (IsReadAnswer strict name.now) page.status (string_bytes page.text) name.now
         (F.outside files.old) (F.outside files.new)) }
 
     ensures closed { (F.outside files.new).mode ≡ Closed }
@@ -149,20 +171,5 @@ fn page_of<F: Files>(alloc: Global, strict: bool, name: &str, files: &mut F) -> 
             status: Status::TooLarge,
         }),
         Err(ReadEnd::Memory) => Err(Memory),
-    }
-}
-
-/// Prints the text, after which the run is to end so.
-fn print<K: Sink>(out: &mut K, text: &[u8], status: Status) -> Status
-    requires { is_page_status status ≡ true }
-
-    ensures printed { IsPrinted result status text.now (K.written out.old) (K.written out.new) }
-    ensures faults { (K.written out.old).faults ≤ (K.written out.new).faults }
-    ensures tells { (K.written out.new).tells ≡ (K.written out.old).tells }
-{
-    match write_all(out, text) {
-        Ok(()) => status,
-        Err(PortEnd::Failed) => Status::WriteFault,
-        Err(PortEnd::Memory) => Status::Memory,
     }
 }

@@ -3,8 +3,15 @@
 ghost use Rattle.std.specs.Prelude.{◌≡◌, map, option_map, IfSome};
 ghost use Rattle.std.specs.List.{list_all};
 ghost use Rattle.std.specs.String.{string_bytes};
-ghost use Rattle.ck_app.specs.Words.{AreNames, command_of, after_check, check_command, is_name};
-ghost use Rattle.ck_app.specs.Check.{command_in};
+ghost use Rattle.ck_app.specs.Words.{command_of, after_check, after_patch, check_command, patch_command, is_name};
+ghost use Rattle.ck_app.specs.Asked.{command_in, AreNamesIn};
+
+/// What a call asks for.
+#[derive(Clone, Copy, Debug)]
+pub enum Asked<'a> {
+    Check(Check<'a>),
+    Patch(Patch<'a>),
+}
 
 /// Files to check.
 #[derive(Clone, Copy, Debug)]
@@ -15,35 +22,70 @@ pub struct Check<'a> {
     pub files: &'a [String],
 }
 
-/// The files that the words tell to check, the first word being the program's name; none where they are of no known
-/// form.
-pub fn asked_check(words: &[String]) -> Option<Check<'_>>
+/// A file to patch, and the name of the one that is to hold the patched text.
+#[derive(Clone, Copy, Debug)]
+pub struct Patch<'a> {
+    /// By the strict rule, flags that change without `cc` break a rule.
+    pub strict: bool,
+    pub input: &'a str,
+    pub output: &'a str,
+}
+
+/// What the words ask for, the first word being the program's name; none where they are of no known form.
+pub fn read_words(words: &[String]) -> Option<Asked<'_>>
     ensures command { option_map command_in result ≡ command_of (map string_bytes words.now) }
-    ensures names { IfSome result (λ check. AreNames (map string_bytes check.files.now)) }
+    ensures names { IfSome result AreNamesIn }
 {
     match words {
         [_, mode, rest @ ..] if mode.as_str() == "check" => after_check(rest),
+        [_, mode, rest @ ..] if mode.as_str() == "patch" => after_patch(rest),
         _ => None,
     }
 }
 
 /// What the words after `check` tell.
-fn after_check(words: &[String]) -> Option<Check<'_>>
+fn after_check(words: &[String]) -> Option<Asked<'_>>
     ensures { option_map command_in result ≡ after_check (map string_bytes words.now) }
 {
     match words {
         [] => None,
-        [first, files @ ..] if first.as_str() == "--strict-cc" => named(true, files),
-        files => named(false, files),
+        [first, files @ ..] if first.as_str() == "--strict-cc" => files_to_check(true, files),
+        files => files_to_check(false, files),
     }
 }
 
-fn named(strict: bool, files: &[String]) -> Option<Check<'_>>
+fn files_to_check(strict: bool, files: &[String]) -> Option<Asked<'_>>
     ensures { option_map command_in result ≡ check_command strict (map string_bytes files.now) }
 {
     match files {
         [] => None,
-        some if are_names(some) => Some(Check { strict, files }),
+        some if are_names(some) => Some(Asked::Check(Check { strict, files })),
+        _ => None,
+    }
+}
+
+/// What the words after `patch` tell.
+fn after_patch(words: &[String]) -> Option<Asked<'_>>
+    ensures { option_map command_in result ≡ after_patch (map string_bytes words.now) }
+{
+    match words {
+        [] => None,
+        [first, files @ ..] if first.as_str() == "--strict-cc" => file_to_patch(true, files),
+        files => file_to_patch(false, files),
+    }
+}
+
+fn file_to_patch(strict: bool, files: &[String]) -> Option<Asked<'_>>
+    ensures { option_map command_in result ≡ patch_command strict (map string_bytes files.now) }
+{
+    match files {
+        [input, output] if is_name(input.as_str()) && is_name(output.as_str()) => {
+            Some(Asked::Patch(Patch {
+                strict,
+                input: input.as_str(),
+                output: output.as_str(),
+            }))
+        }
         _ => None,
     }
 }

@@ -91,7 +91,7 @@ pub static SEVERAL: [Call; 14] = [
 ];
 
 // Words that are of no known form.
-pub static USAGES: [&[&str]; 20] = [
+pub static USAGES: [&[&str]; 24] = [
     &[],
     &[""],
     &["check"],
@@ -110,9 +110,13 @@ pub static USAGES: [&[&str]; 20] = [
     &["check", "a.c", "--strict-cc"],
     &["--strict-cc", "check", "a.c"],
     &["check", "--strict-cc", "--strict-cc", "a.c"],
-    &["patch", "a.c", "b.c"],
+    &["patch"],
+    &["patch", "a.c"],
+    &["patch", "a.c", "b.c", "c.c"],
+    &["patch", "a.c", "-x"],
+    &["patch", "a.c", "b.c", "--strict-cc"],
     &["gen", "1", "2"],
 ];
 
 pub const USAGE: &str =
-    "usage: asmck MODE [--strict-cc] ARGS: check FILE.. | patch IN OUT | lift IN OUT | try FILE K SEED STEPS | gen SEED COUNT\n";
+    "usage: asmck MODE [--strict-cc] ARGS: check FILE.. | patch IN OUT\n";

@@ -10,6 +10,7 @@ texts words = map (λ word. word.now) words
 pub returns-in-Some : goal.returns-in-Some
 returns-in-Some c =
     let words = texts c.args.words.now in
-    let found : Some (texts c.in-Some.names.now) ≡ Some (drop 2 words) = c.in-Some.ensures (drop 2 words) (call_names words c.in-Ok.matches c.requires c.in-Ok.ensures) in
+    let rows = call_names words c.in-Ok.matches c.requires c.in-Ok.ensures in
+    let found : Some (texts c.in-Some.names.now) ≡ Some (drop 2 words) = c.in-Some.ensures rows.0 (drop 2 words) rows.1 in
     let names : texts c.in-Some.names.now ≡ drop 2 words = cc in
     IfOk-weaker c.copied.result _ _ (λ copy is. ap texts is ∙ names) c.copied.ensures

@@ -1,5 +1,6 @@
 use Rattle.std.proofs.Common.{List, ℕ, subst}
 use Rattle.std.specs.String.{string_bytes}
+use Rattle.ck_app.specs.Answer.{IsReadAnswer}
 use Rattle.ck_app.specs.Run.{IsPrinted}
 use Rattle.ck_app.proofs.PrintLaws.{page_prints, page_cause}
 use Rattle.ck_app.proofs.runner.check_file.Goals as goal
@@ -22,6 +23,6 @@ returns-in-Ok g c =
         faults = c.print.ensures.faults;
       };
       reading = page.reading;
-      prints = page_prints c.args.strict c.args.name.now old new before after (string_bytes c.in-Ok.page.text) c.print.result c.in-Ok.page.status page.page printed;
-      cause = page_cause c.args.strict c.args.name.now old new before after (string_bytes c.in-Ok.page.text) c.print.result c.in-Ok.page.status page.page printed;
+      prints = page_prints (IsReadAnswer c.args.strict c.args.name.now) c.args.name.now old new before after (string_bytes c.in-Ok.page.text) c.print.result c.in-Ok.page.status page.page printed;
+      cause = page_cause (IsReadAnswer c.args.strict c.args.name.now) c.args.name.now old new before after (string_bytes c.in-Ok.page.text) c.print.result c.in-Ok.page.status page.page printed;
     }

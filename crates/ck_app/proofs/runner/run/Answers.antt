@@ -1,33 +1,32 @@
-use Rattle.std.proofs.Common.{sym, subst, List, ℕ, map, string_bytes}
+use Rattle.std.proofs.Common.{map, string_bytes}
 use Rattle.ck_app.proofs.FramedLaws.{accepted_are_framed}
 use Rattle.ck_app.proofs.Unique.{one_command_answer}
-use Rattle.ck_app.specs.Run.{IsPrinted}
 use Rattle.ck_app.specs.Words.{command_of}
-use Rattle.ck_app.specs.declared.status.Status.{Status}
-use Rattle.ck_app.proofs.PrintLaws.{usage_prints, usage_cause}
 use Rattle.ck_app.proofs.RunLaws.{complete}
 use Rattle.ck_app.proofs.runner.run.Goals as goal
 
-pub returns-in-None-clause-prints : goal.returns-in-None-clause-prints
-returns-in-None-clause-prints g c = λ told.
-    let before = g.K.Sink.written c.args.out.now in
-    let after = g.K.Sink.written c.print.new.out in
-    let printed = subst (λ (t : List ℕ). IsPrinted c.print.result Status.Usage t before after) c.as_bytes.ensures.value c.print.ensures.printed in
-    usage_prints _ (g.F.Files.outside c.args.files.now) (g.F.Files.outside c.args.files.now) before after c.print.result (sym c.in-None.ensures.command) printed told
+pub returns-clause-prints : goal.returns-clause-prints
+returns-clause-prints g c = c.ran.ensures.prints
 
-pub returns-in-Some-clause-one : goal.returns-in-Some-clause-one
-returns-in-Some-clause-one g c = one_command_answer (command_of (map string_bytes c.args.words.now)) (g.F.Files.outside c.args.files.now).file
+pub returns-clause-one : goal.returns-clause-one
+returns-clause-one g c = one_command_answer (command_of (map string_bytes c.args.words.now)) (g.F.Files.outside c.args.files.now).file
 
-pub returns-in-None-clause-one : goal.returns-in-None-clause-one
-returns-in-None-clause-one g c = one_command_answer (command_of (map string_bytes c.args.words.now)) (g.F.Files.outside c.args.files.now).file
+pub returns-clause-framed : goal.returns-clause-framed
+returns-clause-framed g c = accepted_are_framed (g.F.Files.outside c.args.files.now).file
 
-pub returns-in-Some-clause-framed : goal.returns-in-Some-clause-framed
-returns-in-Some-clause-framed g c = accepted_are_framed (g.F.Files.outside c.args.files.now).file
+pub returns-clause-cause : goal.returns-clause-cause
+returns-clause-cause g c = c.ran.ensures.cause
 
-pub returns-in-None-clause-framed : goal.returns-in-None-clause-framed
-returns-in-None-clause-framed g c = accepted_are_framed (g.F.Files.outside c.args.files.now).file
+pub returns-clause-complete : goal.returns-clause-complete
+returns-clause-complete g c = λ told.
+    complete c.ran.result (command_of (map string_bytes c.args.words.now)) (g.F.Files.outside c.args.files.now) (g.F.Files.outside c.ran.new.files)
+    (g.K.Sink.written c.args.out.now) (g.K.Sink.written c.ran.new.out) c.ran.ensures.cause (c.ran.ensures.prints told)
 
-pub returns-in-None-clause-complete : goal.returns-in-None-clause-complete
-returns-in-None-clause-complete g c = λ told.
-    complete c.print.result _ (g.F.Files.outside c.args.files.now) (g.F.Files.outside c.args.files.now) (g.K.Sink.written c.args.out.now) (g.K.Sink.written c.print.new.out)
-    (usage_cause _ _ _ _ _ _ c.print.result (sym c.in-None.ensures.command) c.print.ensures.printed) (returns-in-None-clause-prints g c told)
+pub returns-clause-kept : goal.returns-clause-kept
+returns-clause-kept g c = c.ran.ensures.kept
+
+pub returns-clause-reading : goal.returns-clause-reading
+returns-clause-reading g c = c.ran.ensures.reading
+
+pub returns-clause-leaves : goal.returns-clause-leaves
+returns-clause-leaves g c = c.ran.ensures.leaves
