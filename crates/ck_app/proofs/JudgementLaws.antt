@@ -10,6 +10,8 @@ use Rattle.asm_core.specs.Parts.{IsParts}
 use Rattle.asm_core.specs.Interface.{interface_of}
 use Rattle.asm_constraints.proofs.StatedLemmas.{interface_of-stated}
 use Rattle.blk_check.specs.Judged.{IsInterfaceOf}
+use Rattle.blk_patch.specs.Letters.{HasLetters}
+use Rattle.blk_patch.proofs.LettersOfText.{letters_stated}
 use Rattle.ck_app.proofs.SmallLaws.{interface_of-small}
 use Rattle.c_words.specs.File.{File}
 use Rattle.c_scopes.specs.Seen.{Declared}
@@ -21,6 +23,12 @@ pub stated : (s : Statement) (parts : Parts) (types : List (Option Operand)) (st
 stated s parts types strict i body whole e =
     let h = interface_of-stated parts types strict i e in
     record { parts = parts; pieces = h.pieces; has_parts = body; are_parts = whole; has_pieces = h.has_pieces; small = interface_of-small parts types strict i whole e; count = h.count }
+
+-- and what the letters of its text say of it
+pub lettered : (s : Statement) (parts : Parts) (types : List (Option Operand)) (strict : Bool) (i : Interface) → s.body ≡ Body.Parts parts → interface_of parts types strict ≡ Ok i → HasLetters i s.body
+lettered s parts types strict i body e = letters_stated parts types strict i s body e
+
+pub ruleset stated_steps = (stated, lettered)
 
 module _ (strict : Bool) (f : File) (seen : Declared) where
   pub judged-none : AreJudged strict f seen [] []

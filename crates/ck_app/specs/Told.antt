@@ -9,6 +9,7 @@ use Rattle.asm_core.specs.declared.interface.IfaceEnd.{IfaceEnd}
 use Rattle.blk_check.specs.Judged.{IsInterfaceOf}
 use Rattle.blk_check.specs.declared.verdict.Verdict.{Verdict}
 use Rattle.blk_patch.specs.Items.{with_items}
+use Rattle.blk_patch.specs.Letters.{HasLetters}
 use Rattle.blk_patch.specs.Rounds.{AreSome, IsPatch}
 use Rattle.blk_patch.specs.declared.patches.PatchEnd.{PatchEnd}
 use Rattle.c_scopes.specs.Seen.{Declared}
@@ -43,10 +44,10 @@ HasFindings (Verdict.Broken findings) = AreSome findings
 HasFindings verdict = Unit {0}
 
 abbrev pub IsKnownBy : Statement → Verdict → Option Interface → Type 0
-IsKnownBy s v (Some i) = IsInterface i × IsInterfaceOf i s
+IsKnownBy s v (Some i) = IsInterface i × IsInterfaceOf i s × HasLetters i s.body
 IsKnownBy s v None = HasFindings v
 
--- an interface is one of its statement; without one there is a finding, where the statement is broken
+-- an interface is one of its statement, with its letters; without one there is a finding, where the statement is broken
 abbrev pub IsKnown : Statement → Told → Type 0
 IsKnown s t = IsKnownBy s t.verdict t.interface
 

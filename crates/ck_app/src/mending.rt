@@ -4,6 +4,7 @@ ghost use Rattle.std.specs.Prelude.{◌≡◌, ◌≤◌, ◌+◌, ◌++◌, ◌
 ghost use Rattle.asm_core.specs.Parts.{IsBody};
 ghost use Rattle.asm_core.specs.WellFormed.{IsInterface};
 ghost use Rattle.blk_check.specs.Judged.{IsInterfaceOf};
+ghost use Rattle.blk_patch.specs.Letters.{HasLetters};
 ghost use Rattle.blk_patch.specs.Rounds.{AreSome, IsPatch};
 ghost use Rattle.c_tokens.specs.Cut.{IsOrdered};
 ghost use Rattle.ck_app.specs.Patching.{IsFirstRefused, IsPatchIn, edits_for};
@@ -206,6 +207,7 @@ fn mend_by(
 ) -> Result<Mended, Memory>
     requires interface { IsInterface interface.now }
     requires stated { IsInterfaceOf interface.now statement.now }
+    requires letters { HasLetters interface.now statement.now.body }
     ensures patch { IfOk result (λ m. IsPatch statement.now interface.now m.end) }
     ensures outcome { IfOk result (λ m. m.outcome ≡ outcome_by interface.now findings m.end) }
 {

@@ -5,6 +5,7 @@ ghost use Rattle.asm_core.specs.Parts.{IsParts, IsBody};
 ghost use Rattle.asm_core.specs.WellFormed.{IsInterface};
 ghost use Rattle.asm_core.specs.declared.statement.Body.{Body};
 ghost use Rattle.blk_check.specs.Judged.{IsInterfaceOf, IsVerdict};
+ghost use Rattle.blk_patch.specs.Letters.{HasLetters};
 ghost use Rattle.c_tokens.specs.Cut.{IsOrdered};
 ghost use Rattle.c_exprs.specs.Operands.{operand_of};
 ghost use Rattle.ck_app.specs.Judgement.{operands_of, interface_in};
@@ -48,7 +49,7 @@ pub fn tell(
 }
 
 /// What a statement tells that has these parts.
-#[tactic(auto, using(crate::proofs::JudgementLaws::stated, crate::proofs::ToldLaws::malformed_some))]
+#[tactic(auto, using(crate::proofs::JudgementLaws::stated_steps, crate::proofs::ToldLaws::malformed_some))]
 fn tell_parts(
     alloc: Global,
     source: &Source<'_>,
@@ -86,6 +87,7 @@ fn tell_interface(
 ) -> Result<Told, Memory>
     requires interface { IsInterface interface }
     requires stated { IsInterfaceOf interface statement.now }
+    requires letters { HasLetters interface statement.now.body }
     ensures told { IfOk result (IsToldBy statement.now (Ok interface)) }
     ensures known { IfOk result (IsKnown statement.now) }
 {
