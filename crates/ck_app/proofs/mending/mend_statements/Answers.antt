@@ -1,6 +1,10 @@
 use Rattle.std.proofs.Common.{take, sym}
-use Rattle.ck_app.proofs.MendedLaws.{mended_one, mended_more}
+use Rattle.ck_app.proofs.MendedLaws.{mended_none, mended_one, mended_more}
 use Rattle.ck_app.proofs.mending.mend_statements.Goals as goal
+
+pub loop-statement-init : goal.loop-statement-init
+loop-statement-init c =
+    mended_none c.args.strict c.args.source.now c.args.scopes.now c.new-mending.result c.new-mending.ensures
 
 pub loop-statement-preserved : goal.loop-statement-preserved
 loop-statement-preserved c =
