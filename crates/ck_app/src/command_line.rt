@@ -1,8 +1,8 @@
 //! The words of a call, taken apart by clap.
 
-ghost use Rattle.std.specs.Prelude.{◌≡◌, ◌∷◌, [], List, ℕ, Some, map, drop, codes, option_map, IfOk};
+ghost use Rattle.std.specs.Prelude.{◌≡◌, ◌∷◌, [], List, ℕ, Some, false, map, drop, codes, option_map, IfOk};
 ghost use Rattle.std.specs.String.{string_bytes};
-ghost use Rattle.clap.specs.Words.{app_of, new_app, with_rule, subcommand_rows_of, HasMatchesOf};
+ghost use Rattle.clap.specs.Words.{app_of, rule_of, subcommand_rows_of, HasMatchesOf};
 ghost use Rattle.ck_app.specs.CommandLine.{asmck_app, file_rule, file_row, IsCall};
 
 use crate::words::{Check, Patch};
@@ -80,19 +80,19 @@ fn parsed<'a>(alloc: Global, words: &'a [&'a str]) -> Result<ArgMatches<'a>, Err
 fn asmck<'a>(alloc: Global) -> Result<Command<'a>, AllocError>
     ensures { IfOk result (λ command. app_of command ≡ asmck_app) }
 {
-    let check = mode(alloc, "check")?;
-    let patch = mode(alloc, "patch")?;
+    let check = Command::new(alloc, "check").arg(files(alloc))?;
+    let patch = Command::new(alloc, "patch").arg(files(alloc))?;
     Command::new(alloc, "asmck")
         .subcommand(check)?
         .subcommand(patch)
 }
 
-/// A mode, behind which names of files stand.
-fn mode<'a>(alloc: Global, name: &'static str) -> Result<Command<'a>, AllocError>
-    ensures { IfOk result (λ command. app_of command ≡ with_rule (new_app name.now) file_rule) }
+/// The names of files behind a mode, of which there is one at least.
+fn files<'a>(alloc: Global) -> Arg<'a>
+    ensures rule { rule_of result ≡ file_rule }
+    ensures local { result.global ≡ false }
 {
-    let file = Arg::new(alloc, "FILE").num_args(1..).required(true);
-    Command::new(alloc, name).arg(file)
+    Arg::new(alloc, "FILE").num_args(1..).required(true)
 }
 
 /// The names of files among what clap found.

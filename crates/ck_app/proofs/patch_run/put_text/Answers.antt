@@ -1,4 +1,4 @@
-use Rattle.std.proofs.Common.{inl, inr, refl, subst, List, ℕ, Some, arith}
+use Rattle.std.proofs.Common.{inl, inr, refl, subst, ap, List, ℕ, Some, Err, arith}
 use Rattle.ck_app.specs.Run.{IsPrinted}
 use Rattle.ck_app.proofs.patch_run.put_text.Goals as goal
 
@@ -15,7 +15,7 @@ returns-in-Ok g c =
       files_tell = w.tells;
       out_tells = c.print.ensures.tells;
       faults = c.print.ensures.faults;
-      either = inl (subst (λ (t : List ℕ). IsPrinted c.print.result c.args.page.now.status t before after) c.as_bytes.ensures.value c.print.ensures.printed, w.whole);
+      either = inl (subst (λ (t : List ℕ). IsPrinted c.print.result c.args.page.now.status t before after) c.as_bytes.ensures.value c.print.ensures.printed, c.in-Ok.ensures.whole);
     }
 
 pub returns-in-Err-Failed : goal.returns-in-Err-Failed
@@ -29,7 +29,7 @@ returns-in-Err-Failed g c =
       files_tell = w.tells;
       out_tells = refl;
       faults = omega arith;
-      either = inr (refl, (w.failed refl, w.err));
+      either = inr (refl, (c.in-Err-Failed.ensures.failed (ap Err c.in-Err-Failed.field-0-is), c.in-Err-Failed.ensures.err));
     }
 
 pub returns-in-Err-Memory : goal.returns-in-Err-Memory
@@ -43,5 +43,5 @@ returns-in-Err-Memory g c =
       files_tell = w.tells;
       out_tells = refl;
       faults = omega arith;
-      either = inr (refl, w.err);
+      either = inr (refl, c.in-Err-Memory.ensures.err);
     }
