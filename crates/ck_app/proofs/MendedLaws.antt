@@ -1,5 +1,5 @@
 -- Patches of statements, one statement at a time.
-use Rattle.std.proofs.Common.{◌≡◌, ℕ, ◌+◌, ◌<◌, ◌≤◌, List, [], ◌∷◌, ◌++◌, length, get_or, take, Bool, refl, sym, ◌∙◌, ap, subst, arith}
+use Rattle.std.proofs.Common.{◌≡◌, ℕ, ◌+◌, ◌<◌, ◌≤◌, List, [], ◌∷◌, ◌++◌, length, get_or, take, Bool, refl, sym, ◌∙◌, ap, subst, zero-add, arith}
 use Rattle.std.proofs.lemmas.List.{append-nil, append_assoc, take_more, take_all}
 use Rattle.asm_core.specs.declared.edit.Edit.{Edit}
 use Rattle.asm_core.specs.declared.statement.Statement.{Statement}
@@ -22,7 +22,7 @@ added_none = refl
 
 pub added_append : (xs ys : List Edit) → added (xs ++ ys) ≡ added xs + added ys
 unfolding added
-added_append [] ys = refl
+added_append [] ys = sym (zero-add (added ys))
 added_append (e ∷ es) ys = let rest = added_append es ys in omega (arith, rest)
 
 module _ (es : List Edit) (i : ℕ) where
@@ -103,7 +103,8 @@ module _ (strict : Bool) (f : File) (seen : Declared) where
         → n.expected ≡ m.expected ++ expectation ∷ [] → n.added ≡ m.added + added (edits_for s end)
         → AreMended strict f seen (ss ++ s ∷ []) n
     mended_one before patch is answered edits expected bytes =
-        let shift : m.added ≡ 0 + added (all_edits ss m.answered) = before.added ∙ ap added before.edits in
+        let shift : m.added ≡ 0 + added (all_edits ss m.answered) = before.added ∙ ap added before.edits
+            ∙ sym (zero-add (added (all_edits ss m.answered))) in
         let this : IsExpected strict f seen m.added s end expectation = record { offset = refl; outcome = is } in
         record {
           answered = subst (AreAnswered strict f seen (ss ++ s ∷ [])) (sym answered)

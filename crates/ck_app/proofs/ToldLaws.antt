@@ -17,6 +17,7 @@ use Rattle.blk_check.specs.Judged.{IsVerdict}
 use Rattle.blk_check.specs.declared.verdict.Verdict.{Verdict}
 use Rattle.blk_patch.specs.Items.{with_items}
 use Rattle.blk_patch.specs.Rounds.{AreSome, IsReached, IsPatch}
+use Rattle.blk_patch.specs.Tighter.{OnlyTightens}
 use Rattle.blk_patch.specs.declared.patches.PatchEnd.{PatchEnd}
 use Rattle.blk_patch.proofs.WithNone.{with_none}
 use Rattle.c_scopes.specs.Seen.{Declared}
@@ -165,18 +166,19 @@ module _ (strict : Bool) (f : File) (seen : Declared) (s : Statement) where
 
     mended : (i : Interface) (findings : List Finding) (end : PatchEnd) → Tells i
         → IsJudgement strict f seen s (Verdict.Broken findings) → outcome ≡ outcome_by i findings end
-        → IsOutcome strict f seen shift s end outcome
-    mended i findings (PatchEnd.Patched items) told judged is = record {
+        → OnlyTightens s i end → IsOutcome strict f seen shift s end outcome
+    mended i findings (PatchEnd.Patched items) told judged is only = record {
       parts = told.parts;
       has_parts = told.has_parts;
       interface = i;
       has_interface = told.has_interface;
+      tighter = only.tighter;
       is = is;
     }
-    mended i findings PatchEnd.Nothing told judged is = kept (Verdict.Broken findings) judged is
-    mended i findings (PatchEnd.NoPatch finding) told judged is = kept (Verdict.Broken findings) judged is
-    mended i findings (PatchEnd.NoRoom items) told judged is = kept (Verdict.Broken findings) judged is
-    mended i findings (PatchEnd.Outside mark) told judged is = kept (Verdict.Broken findings) judged is
+    mended i findings PatchEnd.Nothing told judged is only = kept (Verdict.Broken findings) judged is
+    mended i findings (PatchEnd.NoPatch finding) told judged is only = kept (Verdict.Broken findings) judged is
+    mended i findings (PatchEnd.NoRoom items) told judged is only = kept (Verdict.Broken findings) judged is
+    mended i findings (PatchEnd.Outside mark) told judged is only = kept (Verdict.Broken findings) judged is
 
     refused : (findings : List Finding) (end : PatchEnd) → IsFirstRefused findings end
         → IsKept strict f seen shift s outcome → IsOutcome strict f seen shift s end outcome
@@ -186,7 +188,7 @@ module _ (strict : Bool) (f : File) (seen : Declared) (s : Statement) where
     broken : (findings : List Finding) (io : Option Interface) (end : PatchEnd) → ((i : Interface) → io ≡ Some i → Tells i)
         → IsJudgement strict f seen s (Verdict.Broken findings) → IsBrokenAnswer s findings io end outcome
         → IsOutcome strict f seen shift s end outcome
-    broken findings (Some i) end told judged h = mended i findings end (told i refl) judged h.1
+    broken findings (Some i) end told judged h = mended i findings end (told i refl) judged h.1.0 h.1.1
     broken findings None end told judged h = refused findings end h.0 (kept (Verdict.Broken findings) judged h.1)
 
     outcome_by_verdict : (v : Verdict) (io : Option Interface) (end : PatchEnd) → ((i : Interface) → io ≡ Some i → Tells i)

@@ -8,6 +8,7 @@ use Rattle.asm_core.specs.declared.interface.Interface.{Interface}
 use Rattle.asm_statement.specs.Statements.{statements_of}
 use Rattle.blk_check.specs.declared.verdict.Verdict.{Verdict}
 use Rattle.blk_patch.specs.Items.{with_items}
+use Rattle.blk_patch.specs.Tighter.{IsTighter}
 use Rattle.blk_patch.specs.declared.item.Item.{Item}
 use Rattle.blk_patch.specs.declared.patches.PatchEnd.{PatchEnd}
 use Rattle.c_decls.specs.Walk.{declarations_of}
@@ -45,13 +46,14 @@ pub record IsKept (strict : Bool) (f : File) (seen : Declared) (shift : ℕ) (s 
   pub is_verdict : IsJudgement strict f seen s verdict
   pub is : outcome ≡ moved shift verdict
 
--- of a statement that is patched: to be accepted with what it tells the compiler with these items
+-- of a statement that is patched: to be accepted with what it tells the compiler with these items, which is tighter
 pub record IsMended (strict : Bool) (f : File) (seen : Declared) (s : Statement) (items : List Item)
     (outcome : Outcome) : Type 0 where
   pub parts : Parts
   pub has_parts : s.body ≡ Body.Parts parts
   pub interface : Interface
   pub has_interface : interface_in strict f seen parts ≡ Ok interface
+  pub tighter : IsTighter interface (with_items items interface)
   pub is : outcome ≡ Outcome.With (with_items items interface)
 
 abbrev pub IsOutcome : Bool → File → Declared → ℕ → Statement → PatchEnd → Outcome → Type 0
@@ -115,7 +117,8 @@ pub record IsReread (strict : Bool) (text : List ℕ) (expected : List Expected)
 -- ---- the patched text
 
 -- The new text is the old one with its statements patched. Read again, it has as many statements; each that was patched is
--- accepted with what it told the compiler and the items of its patch, and of each other one the verdict is as before.
+-- accepted with what it told the compiler and the items of its patch, which leaves the compiler no placement that it didn't
+-- have before, and of each other one the verdict is as before.
 pub record IsPatchedText (strict : Bool) (old new : List ℕ) : Type 0 where
   pub tokens : List Token
   pub has_tokens : tokens_of old ≡ Ok tokens

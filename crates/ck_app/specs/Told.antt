@@ -11,6 +11,7 @@ use Rattle.blk_check.specs.declared.verdict.Verdict.{Verdict}
 use Rattle.blk_patch.specs.Items.{with_items}
 use Rattle.blk_patch.specs.Letters.{HasLetters}
 use Rattle.blk_patch.specs.Rounds.{AreSome, IsPatch}
+use Rattle.blk_patch.specs.Tighter.{OnlyTightens}
 use Rattle.blk_patch.specs.declared.patches.PatchEnd.{PatchEnd}
 use Rattle.c_scopes.specs.Seen.{Declared}
 use Rattle.c_words.specs.File.{File}
@@ -59,7 +60,8 @@ outcome_by i findings (PatchEnd.Patched items) = Outcome.With (with_items items 
 outcome_by i findings end = Outcome.Broken findings
 
 abbrev pub IsBrokenAnswer : Statement → List Finding → Option Interface → PatchEnd → Outcome → Type 0
-IsBrokenAnswer s findings (Some i) end outcome = IsPatch s i end × (outcome ≡ outcome_by i findings end)
+IsBrokenAnswer s findings (Some i) end outcome =
+    IsPatch s i end × (outcome ≡ outcome_by i findings end) × OnlyTightens s i end
 IsBrokenAnswer s findings None end outcome = IsFirstRefused findings end × (outcome ≡ Outcome.Broken findings)
 
 -- what is answered to a statement with this verdict, and what is expected of it when so many bytes are added before it

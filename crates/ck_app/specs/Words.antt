@@ -59,4 +59,4 @@ names_read (Some (Command.Check strict files)) = files
 names_read (Some (Command.Patch strict input output)) = input ∷ []
 
 abbrev pub usage_line : List ℕ
-usage_line = codes "usage: asmck MODE [--strict-cc] ARGS: check FILE.. | patch IN OUT\n"
+usage_line = codes "usage: asmck MODE [--strict-cc] ARGS: check FILE.. | patch IN OUT | lift IN OUT | try FILE K SEED STEPS | gen SEED COUNT\n"

@@ -6,6 +6,7 @@ ghost use Rattle.asm_core.specs.WellFormed.{IsInterface};
 ghost use Rattle.blk_check.specs.Judged.{IsInterfaceOf};
 ghost use Rattle.blk_patch.specs.Letters.{HasLetters};
 ghost use Rattle.blk_patch.specs.Rounds.{AreSome, IsPatch};
+ghost use Rattle.blk_patch.specs.Tighter.{OnlyTightens};
 ghost use Rattle.c_tokens.specs.Cut.{IsOrdered};
 ghost use Rattle.ck_app.specs.Patching.{IsFirstRefused, IsPatchIn, edits_for};
 ghost use Rattle.ck_app.specs.Reread.{IsOutcome, added, added_by};
@@ -210,6 +211,7 @@ fn mend_by(
     requires letters { HasLetters interface.now statement.now.body }
     ensures patch { IfOk result (λ m. IsPatch statement.now interface.now m.end) }
     ensures outcome { IfOk result (λ m. m.outcome ≡ outcome_by interface.now findings m.end) }
+    ensures tightens { IfOk result (λ m. OnlyTightens statement.now interface.now m.end) }
 {
     let end = patch(alloc, statement, interface)?;
     let outcome = outcome_by(alloc, interface, findings, &end)?;

@@ -23,7 +23,7 @@ use ck_ports::{Files, ReadEnd, Sink, read_all};
 use std::alloc::Global;
 
 const USAGE: &str =
-    "usage: asmck MODE [--strict-cc] ARGS: check FILE.. | patch IN OUT\n";
+    "usage: asmck MODE [--strict-cc] ARGS: check FILE.. | patch IN OUT | lift IN OUT | try FILE K SEED STEPS | gen SEED COUNT\n";
 
 /// Does what the words ask for, the first of them being the program's name, and prints to `out`.
 ///

@@ -119,4 +119,4 @@ pub static USAGES: [&[&str]; 24] = [
 ];
 
 pub const USAGE: &str =
-    "usage: asmck MODE [--strict-cc] ARGS: check FILE.. | patch IN OUT\n";
+    "usage: asmck MODE [--strict-cc] ARGS: check FILE.. | patch IN OUT | lift IN OUT | try FILE K SEED STEPS | gen SEED COUNT\n";
