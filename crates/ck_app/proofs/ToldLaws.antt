@@ -188,7 +188,7 @@ module _ (strict : Bool) (f : File) (seen : Declared) (s : Statement) where
     broken : (findings : List Finding) (io : Option Interface) (end : PatchEnd) → ((i : Interface) → io ≡ Some i → Tells i)
         → IsJudgement strict f seen s (Verdict.Broken findings) → IsBrokenAnswer s findings io end outcome
         → IsOutcome strict f seen shift s end outcome
-    broken findings (Some i) end told judged h = mended i findings end (told i refl) judged h.1.0 h.1.1
+    broken findings (Some i) end told judged h = mended i findings end (told i refl) judged h.1 h.2
     broken findings None end told judged h = refused findings end h.0 (kept (Verdict.Broken findings) judged h.1)
 
     outcome_by_verdict : (v : Verdict) (io : Option Interface) (end : PatchEnd) → ((i : Interface) → io ≡ Some i → Tells i)

@@ -1,5 +1,5 @@
 use Rattle.std.proofs.Common.{take, sym}
-use Rattle.ck_app.proofs.MendedLaws.{mended_one, mended_more}
+use Rattle.ck_app.proofs.MendedLaws.{mended_none, mended_one, mended_more}
 use Rattle.ck_app.proofs.mending.mend_statements.Goals as goal
 
 pub loop-statement-preserved : goal.loop-statement-preserved
@@ -15,3 +15,7 @@ loop-statement-preserved c =
     (mended_one strict source scopes (take i ss) s c.loop-statement.mending c.add.new.mending m.end m.outcome
     c.loop-statement.invariant c.in_ok-mended.ensures.patch c.in_ok-mended.ensures.outcome
     c.in_ok-add.ensures.answered c.in_ok-add.ensures.edits c.in_ok-add.ensures.expected c.in_ok-add.ensures.added)
+
+pub loop-statement-init : goal.loop-statement-init
+loop-statement-init c =
+    mended_none c.args.strict c.args.source.now c.args.scopes.now c.new-mending.result c.new-mending.ensures

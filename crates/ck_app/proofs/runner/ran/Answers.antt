@@ -1,7 +1,9 @@
 use Rattle.std.proofs.Common.{sym, subst, ap, List, ℕ, Option, Some, arith, inl, refl}
+use Rattle.ck_app.specs.Asked.{command_in}
 use Rattle.ck_app.specs.Run.{IsPrinted, Runs}
 use Rattle.ck_app.specs.Words.{Command}
 use Rattle.ck_app.specs.declared.status.Status.{Status}
+use Rattle.ck_app.specs.declared.words.Asked.{Asked}
 use Rattle.ck_app.proofs.UsageLaws.{usage_runs}
 use Rattle.ck_app.proofs.runner.ran.Goals as goal
 
@@ -15,10 +17,20 @@ returns-in-None g c =
 
 pub returns-in-Some-Check : goal.returns-in-Some-Check
 returns-in-Some-Check g c =
-    subst (λ (command : Option Command). Runs command c.check_named.result (g.F.Files.outside c.args.files.now) (g.F.Files.outside c.check_named.new.files) (g.K.Sink.written c.args.out.now) (g.K.Sink.written c.check_named.new.out))
-    c.in-Some-Check.ensures.command c.check_named.ensures
+    let old = g.F.Files.outside c.args.files.now in
+    let new = g.F.Files.outside c.check_named.new.files in
+    let before = g.K.Sink.written c.args.out.now in
+    let after = g.K.Sink.written c.check_named.new.out in
+    subst (λ (command : Option Command). Runs command c.check_named.result old new before after) c.in-Some-Check.ensures.command
+    (subst (λ (asked : Asked). Runs (Some (command_in asked)) c.check_named.result old new before after)
+    (sym c.in-Some-Check.field-0-is) c.check_named.ensures)
 
 pub returns-in-Some-Patch : goal.returns-in-Some-Patch
 returns-in-Some-Patch g c =
-    subst (λ (command : Option Command). Runs command c.patch_named.result (g.F.Files.outside c.args.files.now) (g.F.Files.outside c.patch_named.new.files) (g.K.Sink.written c.args.out.now) (g.K.Sink.written c.patch_named.new.out))
-    c.in-Some-Patch.ensures.command c.patch_named.ensures
+    let old = g.F.Files.outside c.args.files.now in
+    let new = g.F.Files.outside c.patch_named.new.files in
+    let before = g.K.Sink.written c.args.out.now in
+    let after = g.K.Sink.written c.patch_named.new.out in
+    subst (λ (command : Option Command). Runs command c.patch_named.result old new before after) c.in-Some-Patch.ensures.command
+    (subst (λ (asked : Asked). Runs (Some (command_in asked)) c.patch_named.result old new before after)
+    (sym c.in-Some-Patch.field-0-is) c.patch_named.ensures)
