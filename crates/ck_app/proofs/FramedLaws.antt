@@ -1,7 +1,6 @@
 -- Each statement that is accepted keeps the frame.
-use Rattle.std.proofs.Common.{◌≡◌, inl, inr, ℕ, List, [], ◌∷◌, Bool, All, Option, Some, Result, Ok, Err, refl, sym, subst}
+use Rattle.std.proofs.Common.{◌≡◌, inl, inr, ℕ, List, [], ◌∷◌, Bool, All, Option, Result, Ok, Err, refl, sym, subst}
 use Rattle.std.proofs.lemmas.List.Elements.{All-head, All-tail}
-use Rattle.asm_core.specs.Interface.{interface_of}
 use Rattle.asm_core.specs.Lists.{IsMember}
 use Rattle.asm_core.specs.Parts.{IsParts, IsBody}
 use Rattle.asm_core.specs.declared.statement.Body.{Body}
@@ -14,13 +13,12 @@ use Rattle.asm_statement.specs.Statements.{statements_of}
 use Rattle.asm_statement.proofs.PartLaws.{all_kept}
 use Rattle.blk_check.specs.declared.verdict.Verdict.{Verdict}
 use Rattle.blk_check.proofs.FrameOfAccepted.{accepted_is_framed}
-use Rattle.c_tokens.specs.declared.token.Token.{Token}
 use Rattle.c_words.specs.File.{File, file_of}
 use Rattle.c_scopes.specs.Seen.{Declared}
 use Rattle.c_decls.specs.Walk.{declarations_of}
 use Rattle.ck_app.proofs.JudgementLaws.{stated}
 use Rattle.ck_app.specs.Framed.{IsFramedIn, IsAcceptedBy, AcceptedAreFramed}
-use Rattle.ck_app.specs.Judgement.{operands_of, interface_in, IsVerdictBy, IsBodyVerdict, IsJudgement}
+use Rattle.ck_app.specs.Judgement.{operands_of, interface_in, IsVerdictBy, IsBodyVerdict}
 
 member_of : {A : Type 0} (P : A → Type 0) (xs : List A) (x : A) → All P xs → IsMember x xs → P x
 member_of P [] x all member = absurd member

@@ -104,7 +104,7 @@ module _ (strict : Bool) (f : File) (seen : Declared) where
         → AreMended strict f seen (ss ++ s ∷ []) n
     mended_one before patch is answered edits expected bytes =
         let shift : m.added ≡ 0 + added (all_edits ss m.answered) = before.added ∙ ap added before.edits
-            ∙ sym (zero-add (added (all_edits ss m.answered))) in
+        ∙ sym (zero-add (added (all_edits ss m.answered))) in
         let this : IsExpected strict f seen m.added s end expectation = record { offset = refl; outcome = is } in
         record {
           answered = subst (AreAnswered strict f seen (ss ++ s ∷ [])) (sym answered)
@@ -130,4 +130,5 @@ module _ (strict : Bool) (f : File) (seen : Declared) where
     mended_end m le before = subst (λ (q : List Statement). AreMended strict f seen q m) (take_all i ss le) before
 
 pub ruleset mended_steps = (mended_none, mended_empty, mended_end)
+
 pub ruleset added_steps = (added_none, added_more)

@@ -78,7 +78,7 @@ of_file : (strict : Bool) (name text : List ℕ) (a : Answer) → IsPatchFileAns
 of_file strict name text a h =
     ap (λ (x : Answer). is_of_file x.status) h.is
     ∙ of_either (nat_lt most_bytes (length text)) (answer (too_large_line name) Status.TooLarge)
-        (patch_tokens_answer name text (tokens_of text) h.answered) refl (of_tokens name text (tokens_of text) h.answered)
+    (patch_tokens_answer name text (tokens_of text) h.answered) refl (of_tokens name text (tokens_of text) h.answered)
 
 pub patched_page : (strict : Bool) (name bytes : List ℕ) (old new : Outside) → (IsTrue old.tells → old.file name ≡ Some bytes)
     → (status : Status) (text : List ℕ) → IsPatchFileAnswer strict name bytes (answer text status)

@@ -1,14 +1,14 @@
 -- A run that patches a file, from what was read to what was written and printed.
-use Rattle.std.proofs.Common.{◌≡◌, ◌⊎◌, inl, inr, ℕ, ◌+◌, ◌<◌, ◌≤◌, List, [], ◌∷◌, length, take, Option, None, Some, Bool, true, false, IsTrue, refl, sym, ◌∙◌, ap, subst, arith}
-use Rattle.std.proofs.lemmas.List.{append-nil, take_all}
-use Rattle.ck_ports.specs.Faults.{Faults, Rose, RisesAt, CountsAt}
-use Rattle.ck_ports.specs.Outside.{Outside, SameFiles, SameOtherFiles, HoldsPrefix, IsCutOff}
-use Rattle.ck_ports.specs.Written.{Written, Writes, WritesPrefix}
+use Rattle.std.proofs.Common.{◌≡◌, ◌⊎◌, inl, inr, ℕ, List, [], ◌∷◌, length, Option, None, Some, Bool, IsTrue, refl, sym, ◌∙◌, ap, subst, arith}
+use Rattle.std.proofs.lemmas.List.{take_all}
+use Rattle.ck_ports.specs.Faults.{Faults, RisesAt, CountsAt}
+use Rattle.ck_ports.specs.Outside.{Outside, SameFiles, HoldsPrefix, IsCutOff}
+use Rattle.ck_ports.specs.Written.{Written, WritesPrefix}
 use Rattle.ck_ports.specs.declared.files.Mode.{Mode}
-use Rattle.ck_app.specs.Answer.{Answer, answer}
+use Rattle.ck_app.specs.Answer.{Answer}
 use Rattle.ck_app.specs.PatchAnswer.{IsPatchAnswer}
 use Rattle.ck_app.specs.Put.{IsToWrite, IsWritten, IsUnwritten, IsPut}
-use Rattle.ck_app.specs.Run.{Tells, KeepsOthers, HasReadFault, CountsReads, PrintsPart, PrintsReadFault, GivesAnswer, Prints, HasCause, PrintsFile, PrintsFilePart, HasFileCause, IsPageOf, IsPrinted, IsPatchedOf, HoldsPatched, HoldsPart, LeavesOut, RunsPatch}
+use Rattle.ck_app.specs.Run.{KeepsOthers, HasReadFault, CountsReads, PrintsPart, Prints, HasCause, PrintsFile, PrintsFilePart, HasFileCause, IsPageOf, IsPrinted, IsPatchedOf, HoldsPatched, HoldsPart, LeavesOut, RunsPatch}
 use Rattle.ck_app.specs.Words.{Command}
 use Rattle.ck_app.specs.declared.status.Status.{Status}
 use Rattle.ck_app.proofs.PrintLaws.{nothing_written, page_prints, page_cause}
@@ -256,10 +256,10 @@ module _ (strict : Bool) (input output : List ℕ) (old mid new : Outside) (befo
           leaves = λ told. printed_leaves result done.0 done.1 told;
         }
     | inr un ↦ record {
-        kept = kept;
-        reading = reading;
-        prints = λ told. unwritten_prints result un.0 un.1;
-        cause = unwritten_cause result written un.1;
-        leaves = λ told. unwritten_leaves result written to_write un.1 told;
-      }
+      kept = kept;
+      reading = reading;
+      prints = λ told. unwritten_prints result un.0 un.1;
+      cause = unwritten_cause result written un.1;
+      leaves = λ told. unwritten_leaves result written to_write un.1 told;
+    }
   ]

@@ -18,7 +18,7 @@ use Rattle.c_decls.specs.Walk.{declarations_of}
 use Rattle.ck_app.specs.Answer.{Answer, answer, most_bytes}
 use Rattle.ck_app.specs.Judgement.{interface_in}
 use Rattle.ck_app.specs.Lines.{too_large_line}
-use Rattle.ck_app.specs.PatchAnswer.{patch_tokens_answer, patch_file_answer, AreAnswers, IsPatchFileAnswer, IsPatchAnswer}
+use Rattle.ck_app.specs.PatchAnswer.{patch_tokens_answer, patch_file_answer, AreAnswers, IsPatchAnswer}
 use Rattle.ck_app.specs.Patching.{IsFirstRefused, IsPatchBy, IsBodyPatch, IsAnswered, AreAnswered}
 use Rattle.ck_app.specs.declared.status.Status.{Status}
 use Rattle.ck_report.specs.declared.patch_reports.Answered.{Answered}

@@ -5,7 +5,7 @@ use Rattle.ck_ports.specs.Outside.{Outside}
 use Rattle.ck_ports.specs.Written.{Written, Writes, WritesPrefix}
 use Rattle.ck_app.specs.Answer.{Answer, answer, IsReadAnswer}
 use Rattle.ck_app.specs.FilesAnswer.{IsCommandAnswer}
-use Rattle.ck_app.specs.Run.{Tells, PrintsPart, GivesAnswer, Prints, HasCause, PrintsFile, PrintsFilePart, HasFileCause, IsPageOf, IsPrinted, Runs, is_page_status}
+use Rattle.ck_app.specs.Run.{Tells, PrintsPart, GivesAnswer, Prints, HasCause, PrintsFile, PrintsFilePart, HasFileCause, IsPageOf, IsPrinted, is_page_status}
 use Rattle.ck_app.specs.Words.{Command, usage_line}
 use Rattle.ck_app.specs.declared.status.Status.{Status}
 

@@ -1,5 +1,5 @@
 -- What is told of a statement: its verdict, what is answered to it, and what is expected of it.
-use Rattle.std.proofs.Common.{◌≡◌, ℕ, ◌+◌, List, [], ◌∷◌, ◌++◌, Bool, Option, None, Some, Result, Ok, Err, refl, sym, ◌∙◌, ap, subst}
+use Rattle.std.proofs.Common.{◌≡◌, ℕ, List, [], ◌∷◌, ◌++◌, Bool, Option, None, Some, Result, Ok, Err, refl, sym, ap, subst}
 use Rattle.asm_core.specs.Constraint.{names_of, constrained_operands}
 use Rattle.asm_core.specs.Interface.{made_of, first_mark, template_scan, unless_malformed, scanned_interface, unless_marked, interface_of}
 use Rattle.asm_core.specs.Malformed.{malformed_findings}
@@ -24,8 +24,8 @@ use Rattle.c_scopes.specs.Seen.{Declared}
 use Rattle.c_words.specs.File.{File}
 use Rattle.ck_app.specs.Judgement.{interface_in, IsVerdictBy, IsBodyVerdict, IsJudgement}
 use Rattle.ck_app.specs.Patching.{IsFirstRefused, IsPatchBy, IsBodyPatch, IsPatchIn}
-use Rattle.ck_app.specs.Reread.{moved, IsKept, IsMended, IsOutcome, IsOutcomeMet, IsMet}
-use Rattle.ck_app.specs.Told.{interface_if, IsToldBy, IsToldOfBody, IsTold, outcome_by, IsBrokenAnswer, IsAnswerBy, IsMetBy}
+use Rattle.ck_app.specs.Reread.{moved, IsKept, IsOutcome, IsOutcomeMet, IsMet}
+use Rattle.ck_app.specs.Told.{interface_if, IsToldOfBody, IsTold, outcome_by, IsBrokenAnswer, IsAnswerBy, IsMetBy}
 use Rattle.ck_app.specs.declared.expected.Expected.{Expected}
 use Rattle.ck_app.specs.declared.expected.Outcome.{Outcome}
 use Rattle.ck_app.specs.declared.told.Told.{Told}

@@ -1,5 +1,5 @@
 -- A run whose words are of no known form.
-use Rattle.std.proofs.Common.{◌≡◌, inl, ℕ, ◌≤◌, List, Option, None, refl, sym, subst, arith}
+use Rattle.std.proofs.Common.{◌≡◌, inl, ◌≤◌, Option, None, refl, sym, subst, arith}
 use Rattle.ck_ports.specs.Outside.{Outside}
 use Rattle.ck_ports.specs.Written.{Written}
 use Rattle.ck_ports.specs.declared.files.Mode.{Mode}

@@ -1,5 +1,5 @@
 -- What is true of each statement that is accepted: it keeps the frame.
-use Rattle.std.specs.Prelude.{◌≡◌, ℕ, List, Bool, Option, Some, Result, Ok}
+use Rattle.std.specs.Prelude.{◌≡◌, ℕ, List, Bool, Option, Some, Ok}
 use Rattle.asm_core.specs.Lists.{IsMember}
 use Rattle.asm_core.specs.declared.statement.Body.{Body}
 use Rattle.asm_core.specs.declared.statement.Parts.{Parts}

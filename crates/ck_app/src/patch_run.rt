@@ -59,7 +59,16 @@ fn patch_first<F: Files, K: Sink>(
 {
     let strict = asked.strict;
     match names {
-        [input, output] => patch_file(alloc, Patch { strict, input, output }, files, out),
+        [input, output] => patch_file(
+            alloc,
+            Patch {
+                strict,
+                input,
+                output,
+            },
+            files,
+            out,
+        ),
         _ => unreachable!(),
     }
 }
@@ -123,12 +132,7 @@ fn patched_of<F: Files>(
 }
 
 /// Writes the patched text, if there is one, and prints the page.
-fn put<F: Files, K: Sink>(
-    patched: &Patched,
-    output: &str,
-    files: &mut F,
-    out: &mut K,
-) -> Status
+fn put<F: Files, K: Sink>(patched: &Patched, output: &str, files: &mut F, out: &mut K) -> Status
     requires closed { (F.outside files.old).mode ≡ Closed }
     requires page { is_page_status patched.now.page.status ≡ true }
 

@@ -71,7 +71,13 @@ fn patch_tokens(
 {
     let statements = statements(alloc, tokens, text)?;
     let mending = mendings(alloc, text, tokens, statements.as_slice(), strict)?;
-    match rewrite(alloc, text, mending.edits.as_slice(), mending.expected.as_slice(), strict)? {
+    match rewrite(
+        alloc,
+        text,
+        mending.edits.as_slice(),
+        mending.expected.as_slice(),
+        strict,
+    )? {
         Rewritten::Confirmed(new) => Ok(Patched {
             page: page_of(alloc, name, text, mending.answered.as_slice())?,
             text: Some(new),

@@ -129,7 +129,8 @@ fn same_cell(a: Cell, b: Cell) -> bool
         (Cell::Reg(a), Cell::Reg(b)) => a == b,
         (Cell::Flag(a), Cell::Flag(b)) => a == b,
         (Cell::Operand(a), Cell::Operand(b)) => a == b,
-        (Cell::Memory, Cell::Memory) | (Cell::Cc, Cell::Cc) | (Cell::Nothing, Cell::Nothing) => true,
+        (Cell::Memory, Cell::Memory) | (Cell::Cc, Cell::Cc) | (Cell::Nothing, Cell::Nothing) =>
+            true,
         _ => false,
     }
 }

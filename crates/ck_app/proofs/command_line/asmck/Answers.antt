@@ -1,7 +1,7 @@
 use Rattle.std.proofs.Common.{ap, ap₂, codes, refl, ◌≡◌, ◌∙◌}
 use Rattle.std.proofs.lemmas.Result.{IfOk-weaker}
 use Rattle.clap.specs.Words.{App, app_of, new_app, with_rule, with_subcommand}
-use Rattle.ck_app.specs.CommandLine.{file_rule, mode_app}
+use Rattle.ck_app.specs.CommandLine.{mode_app}
 use Rattle.ck_app.proofs.command_line.asmck.Goals as goal
 
 pub returns : goal.returns

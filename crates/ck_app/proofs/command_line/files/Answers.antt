@@ -1,4 +1,4 @@
-use Rattle.std.proofs.Common.{rules, ap, true, Option, None, Some, IsSomeAnd, ◌≡◌, ◌∙◌}
+use Rattle.std.proofs.Common.{ap, true, Option, None, Some, IsSomeAnd, ◌≡◌, ◌∙◌}
 use Rattle.clap.specs.Words.{Rule, rule_of}
 use Rattle.clap.specs.declared.builder.range.ValueRange.{ValueRange}
 use Rattle.clap.specs.declared.builder.arg.Arg.{Arg}

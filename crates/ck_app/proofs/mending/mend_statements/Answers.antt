@@ -1,4 +1,4 @@
-use Rattle.std.proofs.Common.{take, sym}
+use Rattle.std.proofs.Common.{take}
 use Rattle.ck_app.proofs.MendedLaws.{mended_none, mended_one, mended_more}
 use Rattle.ck_app.proofs.mending.mend_statements.Goals as goal
 

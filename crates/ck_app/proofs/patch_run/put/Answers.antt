@@ -1,4 +1,4 @@
-use Rattle.std.proofs.Common.{inl, refl, sym, subst, List, ℕ, Option, arith}
+use Rattle.std.proofs.Common.{inl, refl, sym, subst, List, ℕ, Option}
 use Rattle.ck_app.specs.Put.{IsWritten}
 use Rattle.ck_app.specs.Run.{IsPrinted}
 use Rattle.ck_app.proofs.PatchRunLaws.{counts_same}
@@ -17,6 +17,8 @@ returns-in-None g c =
       files_tell = refl;
       out_tells = c.print.ensures.tells;
       faults = c.print.ensures.faults;
-      either = inl (subst (λ (t : List ℕ). IsPrinted c.print.result c.args.patched.now.page.status t before after) c.as_bytes.ensures.value c.print.ensures.printed,
-          subst (λ (t : Option (List ℕ)). IsWritten t c.args.output.now files files) (sym c.in-None.is) (λ name. refl));
+      either = inl (
+        subst (λ (t : List ℕ). IsPrinted c.print.result c.args.patched.now.page.status t before after) c.as_bytes.ensures.value c.print.ensures.printed,
+        subst (λ (t : Option (List ℕ)). IsWritten t c.args.output.now files files) (sym c.in-None.is) (λ name. refl),
+      );
     }

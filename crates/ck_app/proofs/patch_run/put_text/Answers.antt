@@ -1,4 +1,4 @@
-use Rattle.std.proofs.Common.{inl, inr, refl, subst, ap, List, ℕ, Some, Err, arith}
+use Rattle.std.proofs.Common.{inl, inr, refl, subst, ap, List, ℕ, Err, arith}
 use Rattle.ck_app.specs.Run.{IsPrinted}
 use Rattle.ck_app.proofs.patch_run.put_text.Goals as goal
 

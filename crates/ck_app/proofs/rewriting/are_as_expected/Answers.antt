@@ -15,6 +15,6 @@ returns-in-empty c = λ told.
       tokens = c.args.tokens.now.list;
       has_tokens = c.requires.of_text;
       met = subst (λ (ss : List Statement). AreMet c.args.strict file (declarations_of file) ss c.args.expected.now) is
-          (met_empty c.args.strict file (declarations_of file) c.as_slice.result.now c.args.expected.now c.in-empty.len_below 
+          (met_empty c.args.strict file (declarations_of file) c.as_slice.result.now c.args.expected.now c.in-empty.len_below
           (ap length c.as_slice.ensures ∙ sym c.len.ensures ∙ c.if-len-expected.false));
     }

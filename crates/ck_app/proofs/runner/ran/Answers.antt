@@ -1,4 +1,4 @@
-use Rattle.std.proofs.Common.{sym, subst, ap, List, ℕ, Option, Some, arith, inl, refl}
+use Rattle.std.proofs.Common.{sym, subst, List, ℕ, Option, Some}
 use Rattle.ck_app.specs.Asked.{command_in}
 use Rattle.ck_app.specs.Run.{IsPrinted, Runs}
 use Rattle.ck_app.specs.Words.{Command}
