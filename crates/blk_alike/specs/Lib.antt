@@ -1,0 +1,4 @@
+pub mod Alike
+pub mod Determined
+pub mod Twins
+pub mod Fellows
