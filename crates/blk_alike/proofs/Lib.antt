@@ -5,3 +5,7 @@ pub mod Courses
 pub mod Together
 pub mod Before
 pub mod Owed
+pub mod LevelRows
+pub mod DepthsTogether
+pub mod TableStands
+pub mod DirectionsTogether
