@@ -9,3 +9,8 @@ pub mod LevelRows
 pub mod DepthsTogether
 pub mod TableStands
 pub mod DirectionsTogether
+pub mod TurnFacts
+pub mod TurnLast
+pub mod TurnsKept
+pub mod TurnLines
+pub mod TurnsTogether

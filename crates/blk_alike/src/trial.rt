@@ -2,7 +2,7 @@ ghost use Rattle.std.specs.Prelude.{◌≡◌};
 ghost use Rattle.blk_alike.specs.Alike.{IsAlike};
 
 /// A trial.
-#[tactic(auto, using(crate::proofs::DepthsTogether::depths_alike, crate::proofs::DirectionsTogether::directions_alike))]
+#[tactic(auto, using(crate::proofs::TurnsTogether::turns_twin))]
 pub fn trial(n: usize) -> usize
     ensures { result ≡ n }
 {
