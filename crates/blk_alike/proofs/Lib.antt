@@ -14,3 +14,6 @@ pub mod TurnLast
 pub mod TurnsKept
 pub mod TurnLines
 pub mod TurnsTogether
+pub mod StepTogether
+pub mod RunStands
+pub mod RunsTogether

@@ -43,7 +43,7 @@ only_register u at r low is = one (subst (λ place. IsMember r (place_registers 
     one (inl same) = ap reg_number same ∙ reg_back u low
     one (inr more) = absurd more
 
-alone_told : (i : Interface) (s : Shape) (shares : ℕ → ℕ → Bool) → TellsSharing i s shares → (p q : ℕ) → p < 7 → q < 7
+pub alone_told : (i : Interface) (s : Shape) (shares : ℕ → ℕ → Bool) → TellsSharing i s shares → (p q : ℕ) → p < 7 → q < 7
     → shares p q ≡ true → p ≡ q
 alone_told i s shares tells p q low high told =
     let may = (tells p q).0 told in
@@ -52,7 +52,7 @@ alone_told i s shares tells p q low high told =
 
 -- ---- a line
 
-no_operands : (line : Sym) → (line.repeat ≡ Repeat.No → ⊥) → IsPlain line → line.args ≡ []
+pub no_operands : (line : Sym) → (line.repeat ≡ Repeat.No → ⊥) → IsPlain line → line.args ≡ []
 no_operands line more (inl once) = absurd (more once)
 no_operands line more (inr bare) = bare
 
