@@ -37,7 +37,7 @@ behind_same false false one other same d = same d
 
 -- ---- lists of one length
 
-beyond : {A : Type 0} (xs : List A) (n : ℕ) → slice_get xs n ≡ None → length xs ≤ n
+pub beyond : {A : Type 0} (xs : List A) (n : ℕ) → slice_get xs n ≡ None → length xs ≤ n
 beyond [] n e = omega arith
 beyond (x ∷ xs) zero e = cc
 beyond (x ∷ xs) (suc n) e = let rest = beyond xs n e in omega (arith, rest)

@@ -17,3 +17,4 @@ pub mod TurnsTogether
 pub mod StepTogether
 pub mod RunStands
 pub mod RunsTogether
+pub mod RunsAlike

@@ -275,3 +275,50 @@ module _ (passes : PassesTold) (shown : BehindShown) (steps : StepsTwin) (ways :
       twins_next : ByLines (slice_get s.graph.insts node) (slice_get t.graph.insts node)
       twins_next = subst (λ o. ByLines o (slice_get t.graph.insts node)) (sym here) (subst (ByLines (Some a)) (sym there)
           (by_stage together.told together.stage stepped_twins))
+
+      -- the two runs stand together behind the steps
+      together_next : Together here_course there_course next later
+      together_next =
+          let own = next_stage passes shown here_course both.first node path together.told a here together.to together.stage
+          together.world m together.first together.here choice words next first in
+          let other = next_stage passes shown there_course both.second node path together.told b there to_there stage_there
+          together.other n together.second together.there another words later second_there in
+          record {
+            node = next.at;
+            here = refl;
+            there = sym at;
+            path = own.0;
+            to = own.1.0;
+            told = node ∷ path;
+            stage = own.1.1;
+            world = world_next;
+            other = world_later;
+            first = stands_next passes shown here_course both.first node path together.told a here together.to together.stage
+                together.world m together.first together.here choice words next first next.at own.1.2;
+            second = stands_next passes shown there_course both.second node path together.told b there to_there stage_there
+                together.other n together.second together.there another words later second_there next.at
+                (subst (λ k. slice_index t.depths k ≡ depth_behind b (slice_index t.depths node)) (sym at) other.1.2);
+            twins = subst (λ d. AreTwins i x y d (sight_at here_course (node ∷ path) world_next next)
+                (sight_at there_course (node ∷ path) world_later later)) (sym own.1.2) twins_next;
+            direction = directions_alike i live x y s.shares t.shares depth a b sight sight_there m n before goal choice another words
+                next later first second;
+          }
+
+    -- a step of both runs goes on alike
+    pub step_together : (choice another : ℕ) (words : List ℕ)
+        → GoAlike (Together here_course there_course) (step_at x a goal choice words m) (step_at y b goal another words n)
+    step_together choice another words =
+        ways_go (Together here_course there_course) (step_at x a goal choice words m) (step_at y b goal another words n)
+        (ways i live x y s.shares t.shares depth a b sight sight_there m n before goal choice another words)
+        (λ next later one two at. together_next choice another words next later
+        (record {
+          is_machine = together.first.machine;
+          fits = first_before.fits.targets;
+          step = subst (λ o. IsAfter o next) ((steps_as_line s.placement a first_before.fits.placed).steps goal choice words m) one;
+        })
+        (record {
+          is_machine = together.second.machine;
+          fits = second_before.fits.targets;
+          step = subst (λ o. IsAfter o later) ((steps_as_line t.placement b second_before.fits.placed).steps goal another words n) two;
+        })
+        at)

@@ -2,7 +2,7 @@ ghost use Rattle.std.specs.Prelude.{◌≡◌};
 ghost use Rattle.blk_alike.specs.Alike.{IsAlike};
 
 /// A trial.
-#[tactic(auto, using(crate::proofs::StepTogether::steps_twin, crate::proofs::RunStands::next_stage, crate::proofs::RunsTogether::Track))]
+#[tactic(auto, using(crate::proofs::StepTogether::steps_twin, crate::proofs::RunsAlike::runs_alike))]
 pub fn trial(n: usize) -> usize
     ensures { result ≡ n }
 {
