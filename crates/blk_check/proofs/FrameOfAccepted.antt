@@ -53,7 +53,7 @@ use Rattle.blk_frame.proofs.Stable.{framed_unless}
 use Rattle.blk_text.proofs.CodeThere.{code_there, code_unless}
 use Rattle.blk_text.proofs.KeptU2.{keeps_u2}
 use Rattle.blk_text.specs.Text.{placed_code}
-use Rattle.x86_table.proofs.LinesFit.{IsOfTableIfRead, lines_fit}
+use Rattle.x86_table.proofs.LinesFit.{IsOfTable, IsOfTableIfRead, lines_fit}
 use Rattle.blk_check.specs.Proven.{Proven}
 use Rattle.blk_check.specs.declared.verdict.Verdict.{Verdict}
 use Rattle.blk_check.specs.Judged.{IsVerdict, IsInterfaceOf, IsProof}
@@ -116,11 +116,11 @@ module _ (s : Statement) (i : Interface) (interface : IsInterface i) (of : IsInt
       let read = scanned_pieces q ns of.pieces (first_outside [] (forms_of q ns) (comments_of (map form_code (forms_of q ns)))) (list_any is_missing (forms_of q ns)) refl refl of.has_pieces in
       subst (λ n. ArePieces n (pieces_in s.body)) (name_count parts ∙ sym of.count) (subst (ArePieces (length ns)) (sym listed) read)
 
-  none : NoneBroken i c.live c.graphs
+  pub none : NoneBroken i c.live c.graphs
   none = record { each = λ b line member asked broken. unbroken (IsBroken i c.live c.graphs) (violations_of i) c.kept b member line broken }
 
   module _ (shape : Shape) (p : Placement) (member : IsMember shape (shapes_of i)) (allowed : IsAllowed i shape p) where
-    u : IsUnder s i c.live c.graphs shape
+    pub u : IsUnder s i c.live c.graphs shape
     u = under_each s i c shape member (p, allowed)
 
     stack_kept : (rule : Rule) (n : ℕ) → IsMember (alone rule Cell.Nothing) stack_violations → BreaksStack u.graph rule n → ⊥
@@ -128,7 +128,7 @@ module _ (s : Statement) (i : Interface) (interface : IsInterface i) (of : IsInt
         unbroken (IsStackBroken c.graphs) stack_violations c.level (alone rule Cell.Nothing) listed (line_number u.graph n)
         (record { number = u.number; graph = u.graph; is_graph = u.is_graph; node = n; breaks = broken; is_line = refl })
 
-    sound : IsSound u.graph
+    pub sound : IsSound u.graph
     sound = record {
       left = λ n broken. stack_kept Rule.S1 n (inl refl) broken;
       two = λ n broken. stack_kept Rule.S2 n (inr (inl refl)) broken;
@@ -138,23 +138,25 @@ module _ (s : Statement) (i : Interface) (interface : IsInterface i) (of : IsInt
     read_at : (n : ℕ) (line : Sym) → slice_get u.graph.insts n ≡ Some line → slice_get u.lines.insts n ≡ Some (Some line)
     read_at n line e = subst (λ xs. slice_get xs n ≡ Some (Some line)) u.of_lines.lines (slice_get-map (λ (l : Sym). Some l) u.graph.insts n ∙ rw e refl)
 
-    lines_there : (n : ℕ) (line : Sym) → slice_get u.graph.insts n ≡ Some line → LineFits i shape p line
+    pub of_table : (n : ℕ) (line : Sym) → slice_get u.graph.insts n ≡ Some line → IsOfTable line
+    of_table n line e =
+        at_place IsOfTableIfRead u.lines.insts n (Some line) (lines_fit i shape (pieces_in s.body) u.lines u.under) (read_at n line e)
+
+    pub lines_there : (n : ℕ) (line : Sym) → slice_get u.graph.insts n ≡ Some line → LineFits i shape p line
     lines_there n line e =
-        let read = read_at n line e in
-        let of_table = at_place IsOfTableIfRead u.lines.insts n (Some line) (lines_fit i shape (pieces_in s.body) u.lines u.under) read in
         line_fits i shape p line
         (at_place (IsFit i shape p) u.graph.insts n line
         (insts_fit i shape interface p (is_lettered i shape p allowed) names (pieces_in s.body) u.lines u.graph.insts u.under (sym u.of_lines.lines)) e)
-        of_table
+        (of_table n line e)
 
-    abbrev setting : List ℕ → (ℕ → ℕ → Bool) → Setting
+    abbrev pub setting : List ℕ → (ℕ → ℕ → Bool) → Setting
     setting depths shares = record { interface = i; live = c.live; shape = shape; graph = u.graph; depths = depths; shares = shares }
 
     -- that there is no setting can't be
-    settled : ((depths : List ℕ) (shares : ℕ → ℕ → Bool) → IsSetting (setting depths shares) → ⊥) → ⊥
+    pub settled : ((depths : List ℕ) (shares : ℕ → ℕ → Bool) → IsSetting (setting depths shares) → ⊥) → ⊥
     settled h = settings_there i shape u.graph interface u.of_lines.graph sound (λ depths shares are tells. h depths shares (record { depths = are; shares = tells }))
 
-    code_kept : (unique : ℕ) → unique < 2 ^ 32 → IsCodeUnder i shape p unique (pieces_in s.body) (placed_code p u.graph)
+    pub code_kept : (unique : ℕ) → unique < 2 ^ 32 → IsCodeUnder i shape p unique (pieces_in s.body) (placed_code p u.graph)
     code_kept unique small =
         code_unless i shape p interface allowed (pieces_in s.body) u.lines u.graph u.under u.of_lines.lines unique pieces_there small u.of_lines.is
         (λ no. settled (λ depths shares is.

@@ -14,3 +14,5 @@ pub mod StageLaws
 pub mod ReadLaws
 pub mod GraphSteps
 pub mod FrameOfAccepted
+pub mod NumbersAlike
+pub mod AlikeOfAccepted

@@ -27,6 +27,7 @@ use Rattle.blk_deps.specs.Operands.{IsSmall}
 use Rattle.blk_deps.specs.Findings.{AreFindings, IsBroken, IsStackBroken, stack_violations, violations_of}
 use Rattle.blk_check.specs.Readable.{AreLive, pieces_in, parts_pieces, readings_under, first_unread, shape_findings}
 use Rattle.blk_check.specs.Proven.{Proven}
+use Rattle.blk_check.specs.Signed.{AreSigned}
 use Rattle.blk_check.specs.declared.verdict.Verdict.{Verdict}
 
 -- ---- room
@@ -145,7 +146,8 @@ abbrev pub IsVerdict : Statement → Interface → Verdict → Type 0
 IsVerdict s i v =
     ((64 < length (shapes_of i)) × (v ≡ Verdict.Outside (shapes_mark s))) ⊎ ((length (shapes_of i) ≤ 64) × IsShapesVerdict s i (shapes_of i) v)
 
--- what an interface of a statement says of it: it has parts, the pieces of its template are there, and it has as many operands
+-- what an interface of a statement says of it: it has parts, the pieces of its template are there, it has as many operands, and numbers
+-- that may stand for them are signed ones
 pub record IsInterfaceOf (i : Interface) (s : Statement) : Type 0 where
   pub parts : Parts
   pub pieces : List Piece
@@ -154,3 +156,4 @@ pub record IsInterfaceOf (i : Interface) (s : Statement) : Type 0 where
   pub has_pieces : parts_pieces parts ≡ Ok pieces
   pub small : IsSmall i
   pub count : length i.operands ≡ length (parts.outputs ++ parts.inputs)
+  pub signed : AreSigned i

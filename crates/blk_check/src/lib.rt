@@ -9,6 +9,7 @@ mod readings;
 mod room;
 mod template;
 mod unread;
+mod trial;
 mod verdict;
 
 pub use verdict::{Proof, Verdict, check};
