@@ -5,3 +5,6 @@ pub mod Courses
 pub mod Together
 pub mod Before
 pub mod Owed
+pub mod HolesAlike
+pub mod TextsAlike
+pub mod OperandsAlike
