@@ -8,3 +8,4 @@ pub mod Owed
 pub mod HolesAlike
 pub mod TextsAlike
 pub mod OperandsAlike
+pub mod LinesAlike

@@ -30,12 +30,12 @@ use Rattle.blk_alike.proofs.TextsAlike.{IsCut, before_cut, comma_cut, code_cut, 
 abbrev pub Both : {A : Type 0} → (A → A → Type 0) → Option A → Option A → Type 0
 Both {A} R x y = (a b : A) → x ≡ Some a → y ≡ Some b → R a b
 
-both_cond : {A : Type 0} (R : A → A → Type 0) (c : Bool) (x y v w : Option A) → Both R x v → Both R y w
+pub both_cond : {A : Type 0} (R : A → A → Type 0) (c : Bool) (x y v w : Option A) → Both R x v → Both R y w
     → Both R (cond c x y) (cond c v w)
 both_cond R true x y v w h k = h
 both_cond R false x y v w h k = k
 
-both_some : {A B : Type 0} (R : A → A → Type 0) (S : B → B → Type 0) (f g : A → B) → ((a b : A) → R a b → S (f a) (g b))
+pub both_some : {A B : Type 0} (R : A → A → Type 0) (S : B → B → Type 0) (f g : A → B) → ((a b : A) → R a b → S (f a) (g b))
     → (x y : Option A) → Both R x y → Both S (option_map f x) (option_map g y)
 both_some R S f g each None y h a b e k = cc
 both_some R S f g each (Some x) None h a b e k = cc
@@ -44,7 +44,7 @@ both_some R S f g each (Some x) (Some y) h a b e k =
     let two : g y ≡ b = cc in
     subst (S a) two (subst (λ q. S q (g y)) one (each x y (h x y refl refl)))
 
-both_these : {A : Type 0} (R : A → A → Type 0) (x y : A) → R x y → Both R (Some x) (Some y)
+pub both_these : {A : Type 0} (R : A → A → Type 0) (x y : A) → R x y → Both R (Some x) (Some y)
 both_these R x y h a b e k =
     let one : x ≡ a = cc in
     let two : y ≡ b = cc in
@@ -104,10 +104,10 @@ module _ (i : Interface) (s t : Shape) where
   abbrev codes_of : List Atom → List ℕ
   codes_of xs = map atom_code xs
 
-  codes_same : (xs ys : List Atom) → Texts xs ys → codes_of ys ≡ codes_of xs
+  pub codes_same : (xs ys : List Atom) → Texts xs ys → codes_of ys ≡ codes_of xs
   codes_same xs ys h = sym (codes_beside i s t IsAlike xs ys h.beside)
 
-  lengths_same : (xs ys : List Atom) → Texts xs ys → length ys ≡ length xs
+  pub lengths_same : (xs ys : List Atom) → Texts xs ys → length ys ≡ length xs
   lengths_same xs ys h = length_beside i s t IsAlike xs ys h.beside
 
   -- ---- numbers
@@ -134,7 +134,7 @@ module _ (i : Interface) (s t : Shape) where
         (subst (FellowArgs i s t (number_arg d)) (disp_is e) (FellowArgs.operand k (number_arg d) (number_arg e) name (no_slice d e)));
       }
 
-  disps_alike : (xs ys : List Atom) → Texts xs ys → Both FellowNumbers (disp_in xs) (disp_in ys)
+  pub disps_alike : (xs ys : List Atom) → Texts xs ys → Both FellowNumbers (disp_in xs) (disp_in ys)
   unfolding disp_in
   disps_alike xs ys h d e f g = by (holes_beside i s t IsAlike xs ys h.beside)
     where
@@ -333,7 +333,7 @@ module _ (i : Interface) (s t : Shape) where
       (address_alike (disp_in xs) (disp_in ys) (Some None) (Some None) (Some None) (Some None) (disps_alike xs ys h)
       (both_these Bases None None tt) (both_these Indexes None None tt)))
 
-  address_of_alike : (xs ys : List Atom) → Texts xs ys → Both FellowOperands (address_of xs) (address_of ys)
+  pub address_of_alike : (xs ys : List Atom) → Texts xs ys → Both FellowOperands (address_of xs) (address_of ys)
   unfolding address_of
   address_of_alike xs ys h =
       rw (codes_same xs ys h)
