@@ -9,3 +9,4 @@ pub mod HolesAlike
 pub mod TextsAlike
 pub mod OperandsAlike
 pub mod LinesAlike
+pub mod RepeatsAlike
