@@ -10,3 +10,4 @@ pub mod TextsAlike
 pub mod OperandsAlike
 pub mod LinesAlike
 pub mod RepeatsAlike
+pub mod ReadingsAlike

@@ -2,7 +2,7 @@ ghost use Rattle.std.specs.Prelude.{◌≡◌};
 ghost use Rattle.blk_alike.specs.Alike.{IsAlike};
 
 /// A trial.
-#[tactic(auto, using(crate::proofs::LinesAlike::line_fellow, crate::proofs::RepeatsAlike::line_told))]
+#[tactic(auto, using(crate::proofs::ReadingsAlike::NamesAlike, crate::proofs::RepeatsAlike::line_told))]
 pub fn trial(n: usize) -> usize
     ensures { result ≡ n }
 {
