@@ -8,3 +8,4 @@ pub mod Owed
 pub mod FellowPlaces
 pub mod CellsRead
 pub mod SideBytes
+pub mod Addresses
