@@ -9,3 +9,5 @@ pub mod FellowPlaces
 pub mod CellsRead
 pub mod SideBytes
 pub mod Addresses
+pub mod OperandBytes
+pub mod OperandSpots
