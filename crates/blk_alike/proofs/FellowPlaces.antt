@@ -55,7 +55,7 @@ pub record IsAt (i : Interface) (s : Shape) (k : ℕ) (p : Place) : Type 0 where
   pub there : (places_of i s k ≡ Places.One p) ⊎ ((places_of i s k ≡ Places.Pair) × (p ≡ Place.Reg Reg.Eax))
 
 module _ (i : Interface) (s : Shape) where
-  places_there : (k : ℕ) (p : Place) → IsAt i s k p → slice_get (all_places i s) k ≡ Some (places_of i s k)
+  pub places_there : (k : ℕ) (p : Place) → IsAt i s k p → slice_get (all_places i s) k ≡ Some (places_of i s k)
   places_there k p is = counted_at (places_of i s) i.operands 0 k is.operand is.is_operand
       ∙ ap (λ n. Some (places_of i s n)) (from_zero k)
     where
@@ -127,7 +127,7 @@ module _ (i : Interface) (s : Shape) (k : ℕ) (fact : OperandFacts) where
 -- ---- the places of operands by their kinds
 
 module _ (i : Interface) (s : Shape) (k : ℕ) where
-  places_are : (output : OperandIface) (alt : AltIface) (kind : Kind)
+  pub places_are : (output : OperandIface) (alt : AltIface) (kind : Kind)
       → slice_get i.operands (tie_root i s k) ≡ Some output → alternative_at (Some output) s.alternative ≡ Some alt
       → slice_get s.kinds (tie_root i s k) ≡ Some kind → places_of i s k ≡ kind_places (tie_root i s k) alt kind
   unfolding places_of

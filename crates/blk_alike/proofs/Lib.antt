@@ -11,3 +11,4 @@ pub mod SideBytes
 pub mod Addresses
 pub mod OperandBytes
 pub mod OperandSpots
+pub mod Unchanging
