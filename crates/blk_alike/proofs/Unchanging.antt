@@ -15,6 +15,7 @@ use Rattle.asm_core.specs.declared.interface.AltIface.{AltIface}
 use Rattle.asm_core.specs.declared.interface.Interface.{Interface}
 use Rattle.asm_core.specs.declared.interface.OperandIface.{OperandIface}
 use Rattle.asm_core.specs.declared.reading.OperandFacts.{OperandFacts}
+use Rattle.asm_core.specs.declared.reg.Reg.{Reg}
 use Rattle.asm_core.specs.declared.shape.Kind.{Kind}
 use Rattle.asm_core.specs.declared.shape.Shape.{Shape}
 use Rattle.asm_core.specs.declared.sym.Place.{Place}
@@ -22,9 +23,11 @@ use Rattle.asm_core.proofs.CompanyLaws.{company_is}
 use Rattle.asm_core.proofs.ReadingLaws.OperandsBack.{root_is, root_untied}
 use Rattle.asm_core.proofs.RegisterLaws.{same_reg}
 use Rattle.asm_core.proofs.ShapeLaws.{IsKindFor, IsInShape, is_shape}
+use Rattle.blk_deps.specs.Cells.{place_number, place_at}
 use Rattle.blk_deps.specs.Operands.{in_memory, is_changing}
 use Rattle.blk_frame.proofs.Basics.{by_truth}
 use Rattle.blk_frame.proofs.Members.{any_in}
+use Rattle.blk_frame.proofs.Places.{place_back}
 use Rattle.blk_alike.proofs.FellowPlaces as places
 use Rattle.blk_alike.proofs.FellowPlaces.{HasFacts, IsAt, has_facts, memory_is_at, places_there}
 
@@ -114,3 +117,95 @@ map_at : {A B : Type 0} (f : A → B) (xs : List A) (k : ℕ) (x : A) → slice_
 map_at f [] k x e = cc
 map_at f (y ∷ xs) zero x e = let same : y ≡ x = cc in ap (λ a. Some (f a)) same
 map_at f (y ∷ xs) (suc k) x e = map_at f xs k x e
+
+one_operand : (q : Place) (k : ℕ) → (if same_place q (Place.Operand k) then Held.All else Held.Nothing) ≡ Held.All
+    → q ≡ Place.Operand k
+one_operand (Place.Reg r) k e = cc
+one_operand (Place.Operand n) k e = by (n == k) refl
+  where
+    by : (b : Bool) → (n == k) ≡ b → Place.Operand n ≡ Place.Operand k
+    by true eb = ap Place.Operand (eqb-true n k eb)
+    by false eb = let gone : Held.Nothing ≡ Held.All = rw eb at e in cc
+
+all_at_one : (p : Place) (r : ℕ) (x : Places) → p ≡ Place.Operand r
+    → (x ≡ Places.One (Place.Operand r)) ⊎ ((x ≡ Places.Pair) × (Place.Operand r ≡ Place.Reg Reg.Eax))
+    → held_at p x ≡ Held.All
+all_at_one p r x e (inl one) = ap (λ a. held_at a x) e ∙ ap (held_at (Place.Operand r)) one
+    ∙ ap (λ (b : Bool). if b then Held.All else Held.Nothing) (places.same_place_self (Place.Operand r))
+all_at_one p r x e (inr pair) = let gone = pair.1 in cc
+
+held_one : (q : Place) (r : ℕ) (x : Places) → held_at q x ≡ Held.All
+    → (x ≡ Places.One (Place.Operand r)) ⊎ ((x ≡ Places.Pair) × (Place.Operand r ≡ Place.Reg Reg.Eax))
+    → q ≡ Place.Operand r
+held_one q r x e (inl one) = one_operand q r (ap (held_at q) (sym one) ∙ e)
+held_one q r x e (inr pair) = let gone = pair.1 in cc
+
+-- operand k, memory under the other shape, stands at the place
+pub record IsMemoryThere (i : Interface) (t : Shape) (k : ℕ) (q : Place) : Type 0 where
+  pub fact : OperandFacts
+  pub facts : facts_of i t k ≡ Some fact
+  pub kind : fact.kind ≡ Kind.Memory
+  pub place : q ≡ Place.Operand fact.root
+
+module _ (i : Interface) (live : List Shape) (s t : Shape) (interface : IsInterface i)
+    (member : IsMember s (shapes_of i)) (other : IsMember t (shapes_of i)) (first : IsMember s live)
+    (second : IsMember t live) (j : ℕ) (fact : OperandFacts) (is : facts_of i s j ≡ Some fact)
+    (kind : fact.kind ≡ Kind.Memory) (none : is_changing live fact.root ≡ false) (q : Place) (there : IsAt i t j q)
+    (same : same_operand_company i s t j ≡ true) where
+  abbrev here : HasFacts i s j fact
+  here = has_facts i s j fact is
+
+  operand_here : slice_get i.operands fact.root ≡ Some here.output
+  operand_here = ap (slice_get i.operands) (places.root_is i s j fact is) ∙ here.is_output
+
+  kind_here : slice_get s.kinds fact.root ≡ Some Kind.Memory
+  kind_here = ap (slice_get s.kinds) (places.root_is i s j fact is) ∙ here.is_kind
+      ∙ ap Some (sym (ap (λ (f : OperandFacts). f.kind) here.facts) ∙ kind)
+
+  of_root : (u : Shape) → IsMember u (shapes_of i) → (found : OperandFacts) × (facts_of i u fact.root ≡ Some found)
+      × (slice_get u.kinds fact.root ≡ Some found.kind)
+  of_root u is_shape = facts_there i u fact.root here.output interface is_shape operand_here
+
+  same_kind : (a b : Kind) → Some a ≡ Some b → a ≡ b
+  same_kind a b e = ap (λ o. elim o [ None ↦ a | Some h ↦ h ]) e
+
+  root_at : IsAt i s fact.root (Place.Operand (of_root s member).0.root)
+  root_at = memory_is_at i s fact.root (of_root s member).0 (of_root s member).1
+      (same_kind _ _ (sym (of_root s member).2 ∙ kind_here))
+
+  root_same : (of_root s member).0.root ≡ fact.root
+  root_same = places.root_is i s fact.root (of_root s member).0 (of_root s member).1 ∙ root_own i s j fact interface is
+
+  memory_kind : (of_root t other).0.kind ≡ Kind.Memory
+  memory_kind = same_kind _ _ (sym (of_root t other).2 ∙ kind_there live s t fact.root first second none kind_here)
+
+  at_other : IsAt i t fact.root (Place.Operand (of_root t other).0.root)
+  at_other = memory_is_at i t fact.root (of_root t other).0 (of_root t other).1 memory_kind
+
+  companies : company_of (Place.Operand fact.root) (all_places i s) ≡ company_of q (all_places i t)
+  companies = ap (λ p. company_of p (all_places i s)) (sym (place_back (Place.Operand fact.root)))
+      ∙ company_is (place_at (place_number (Place.Operand fact.root))) (place_at (place_number q)) (all_places i s)
+      (all_places i t)
+      (places.are_fellows i s t j (Place.Operand fact.root) q (memory_is_at i s j fact is kind) there same).company
+      ∙ ap (λ p. company_of p (all_places i t)) (place_back q)
+
+  same_held_at : held_at (Place.Operand fact.root) (places_of i s fact.root) ≡ held_at q (places_of i t fact.root)
+  same_held_at = same_item _ _
+      (sym (map_at (held_at (Place.Operand fact.root)) (all_places i s) fact.root (places_of i s fact.root)
+      (places_there i s fact.root _ root_at))
+      ∙ ap (λ l. slice_get l fact.root) companies
+      ∙ map_at (held_at q) (all_places i t) fact.root (places_of i t fact.root)
+      (places_there i t fact.root _ at_other))
+    where
+      same_item : (a b : Held) → Some a ≡ Some b → a ≡ b
+      same_item a b e = ap (λ o. elim o [ None ↦ a | Some h ↦ h ]) e
+
+  pub memory_is_there : IsMemoryThere i t fact.root q
+  memory_is_there = record {
+    fact = (of_root t other).0;
+    facts = (of_root t other).1;
+    kind = memory_kind;
+    place = held_one q (of_root t other).0.root (places_of i t fact.root)
+        (sym same_held_at ∙ all_at_one (Place.Operand fact.root) (of_root s member).0.root (places_of i s fact.root)
+        (ap Place.Operand (sym root_same)) root_at.there) at_other.there;
+  }
