@@ -12,3 +12,4 @@ pub mod Addresses
 pub mod OperandBytes
 pub mod OperandSpots
 pub mod Unchanging
+pub mod ReadsTwin
