@@ -13,3 +13,4 @@ pub mod OperandBytes
 pub mod OperandSpots
 pub mod Unchanging
 pub mod ReadsTwin
+pub mod RegistersTwin
