@@ -5,3 +5,12 @@ pub mod Courses
 pub mod Together
 pub mod Before
 pub mod Owed
+pub mod FellowPlaces
+pub mod CellsRead
+pub mod SideBytes
+pub mod Addresses
+pub mod OperandBytes
+pub mod OperandSpots
+pub mod Unchanging
+pub mod ReadsTwin
+pub mod RegistersTwin

@@ -56,7 +56,7 @@ module _ (i : Interface) (s t : Shape) where
 
   -- a number, or operand k's number in both
   pub data FellowDisps : Disp → Disp → Type 0 where
-    written : (d : Disp) → FellowDisps d d
+    written : (n : ℤ) → FellowDisps (Disp.Number n) (Disp.Number n)
     operand : (k : ℕ) (d e : Disp) → NameOperand k (number_of d) (number_of e) → FellowDisps d e
 
   -- a register written in the text, or operand k's whole register in both
