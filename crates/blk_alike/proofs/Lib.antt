@@ -16,3 +16,4 @@ pub mod ReadsTwin
 pub mod RegistersTwin
 pub mod WaysTogether
 pub mod GoodBytes
+pub mod OneRoot
