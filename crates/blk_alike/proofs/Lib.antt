@@ -14,3 +14,4 @@ pub mod OperandSpots
 pub mod Unchanging
 pub mod ReadsTwin
 pub mod RegistersTwin
+pub mod OperandsTwin
