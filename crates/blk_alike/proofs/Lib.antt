@@ -15,3 +15,4 @@ pub mod Unchanging
 pub mod ReadsTwin
 pub mod RegistersTwin
 pub mod OperandsTwin
+pub mod ValuesByBytes
