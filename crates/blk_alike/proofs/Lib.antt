@@ -16,3 +16,4 @@ pub mod ReadsTwin
 pub mod RegistersTwin
 pub mod OperandsTwin
 pub mod ValuesByBytes
+pub mod LoadsRead
