@@ -17,3 +17,6 @@ pub mod RegistersTwin
 pub mod WaysTogether
 pub mod GoodBytes
 pub mod OneRoot
+pub mod OperandsTwin
+pub mod ValuesByBytes
+pub mod LoadsRead

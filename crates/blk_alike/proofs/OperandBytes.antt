@@ -67,7 +67,7 @@ abbrev pub start_of : Arg → ℕ
 start_of (Arg.Register place slice) = slice_first slice
 start_of a = 0
 
-same_start : (a b : Arg) → SameSlice a b → start_of a ≡ start_of b
+pub same_start : (a b : Arg) → SameSlice a b → start_of a ≡ start_of b
 same_start (Arg.Register p slice) (Arg.Register q other) e = ap slice_first e
 same_start (Arg.Register p slice) (Arg.Number n) e = e
 same_start (Arg.Register p slice) (Arg.Hole n) e = e
