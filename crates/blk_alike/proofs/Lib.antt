@@ -20,3 +20,5 @@ pub mod OneRoot
 pub mod OperandsTwin
 pub mod ValuesByBytes
 pub mod LoadsRead
+pub mod FellowAccess
+pub mod AccessesTwin

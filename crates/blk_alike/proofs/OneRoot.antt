@@ -112,10 +112,10 @@ module _ (i : Interface) (s : Shape) (interface : IsInterface i) (member : IsMem
     abbrev here : HasFacts i s k fact
     here = has_facts i s k fact is
 
-    root_operand : slice_get i.operands fact.root ≡ Some here.output
+    pub root_operand : slice_get i.operands fact.root ≡ Some here.output
     root_operand = ap (slice_get i.operands) (places.root_is i s k fact is) ∙ here.is_output
 
-    root_kind : slice_get s.kinds fact.root ≡ Some Kind.Memory
+    pub root_kind : slice_get s.kinds fact.root ≡ Some Kind.Memory
     root_kind = ap (slice_get s.kinds) (places.root_is i s k fact is) ∙ here.is_kind
         ∙ ap Some (sym (ap (λ (f : OperandFacts). f.kind) here.facts) ∙ kind)
 
