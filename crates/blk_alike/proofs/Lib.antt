@@ -22,3 +22,4 @@ pub mod ValuesByBytes
 pub mod LoadsRead
 pub mod FellowAccess
 pub mod AccessesTwin
+pub mod AddressesRead
