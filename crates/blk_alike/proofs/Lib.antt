@@ -17,3 +17,4 @@ pub mod RegistersTwin
 pub mod OperandsTwin
 pub mod ValuesByBytes
 pub mod LoadsRead
+pub mod ArgsTwin

@@ -5,7 +5,8 @@ use Rattle.std.proofs.lemmas.Bool.{both_ways, and_from, eqb-true, eq-eqb}
 use Rattle.asm_core.specs.Company.{places_of, all_places, company_of, held_at, same_company, same_operand_company}
 use Rattle.asm_core.specs.Lists.{IsMember}
 use Rattle.asm_core.specs.Placement.{spot_of, tie_root, IsAllowed}
-use Rattle.asm_core.specs.Reading.Facts.{facts_of}
+use Rattle.asm_core.specs.Reading.Facts.{facts_of, place_of}
+use Rattle.asm_core.specs.Reading.Placed.{placed_place, spot_place}
 use Rattle.asm_core.specs.Rows.{same_place}
 use Rattle.asm_core.specs.Shape.{shapes_of}
 use Rattle.asm_core.specs.WellFormed.{IsInterface}
@@ -16,6 +17,7 @@ use Rattle.asm_core.specs.declared.placement.Form.{Form}
 use Rattle.asm_core.specs.declared.placement.Placement.{Placement}
 use Rattle.asm_core.specs.declared.placement.Spot.{Spot}
 use Rattle.asm_core.specs.declared.reading.OperandFacts.{OperandFacts}
+use Rattle.asm_core.specs.declared.reg.Reg.{Reg}
 use Rattle.asm_core.specs.declared.shape.Kind.{Kind}
 use Rattle.asm_core.specs.declared.shape.Shape.{Shape}
 use Rattle.asm_core.specs.declared.sym.Place.{Place}
@@ -64,3 +66,19 @@ module _ (i : Interface) (s : Shape) (p : Placement) (interface : IsInterface i)
       let found = number_spot e in
       let same : n ≡ found.0 = subst (λ q. IsKnown q found.0) known found.2 in
       found.1 ∙ ap Spot.Number (sym same)
+
+  -- a register operand is in a register
+  pub register_spot : fact.kind ≡ Kind.Register → (r : Reg) × (placed_place p (place_of fact) ≡ Place.Reg r)
+  register_spot e = by fact.fixed refl
+    where
+      in_spot : (spot : Spot) → spot_of p fact.root ≡ spot → (r : Reg) × (spot_place fact.root spot ≡ Place.Reg r)
+      in_spot (Spot.Register r) es = (r, refl)
+      in_spot Spot.Pair es = (Reg.Eax, refl)
+      in_spot (Spot.Memory form) es = absurd (fits_at Kind.Register (Spot.Memory form) e es)
+      in_spot (Spot.Number n) es = absurd (fits_at Kind.Register (Spot.Number n) e es)
+
+      by : (fixed : Option Reg) → fact.fixed ≡ fixed → (r : Reg) × (placed_place p (place_of fact) ≡ Place.Reg r)
+      by (Some r) ef = (r, ap (λ (o : Option Reg). placed_place p
+          (elim o [ None ↦ Place.Operand fact.root | Some q ↦ Place.Reg q ])) ef)
+      by None ef = let found = in_spot (spot_of p fact.root) refl in (found.0, ap (λ (o : Option Reg). placed_place p
+          (elim o [ None ↦ Place.Operand fact.root | Some q ↦ Place.Reg q ])) ef ∙ found.1)

@@ -41,14 +41,14 @@ use Rattle.blk_alike.proofs.SideBytes.{register_has}
 
 -- ---- places
 
-same_arg_place : (p q : Place) (a b : Slice) → Arg.Register p a ≡ Arg.Register q b → p ≡ q
+pub same_arg_place : (p q : Place) (a b : Slice) → Arg.Register p a ≡ Arg.Register q b → p ≡ q
 same_arg_place p q a b e = ap place_in e
   where
     place_in : Arg → Place
     place_in (Arg.Register r slice) = r
     place_in other = p
 
-no_register_number : (d : Disp) (p : Place) (slice : Slice) → number_of d ≡ Arg.Register p slice → ⊥
+pub no_register_number : (d : Disp) (p : Place) (slice : Slice) → number_of d ≡ Arg.Register p slice → ⊥
 no_register_number (Disp.Number n) p slice e = cc
 no_register_number (Disp.Hole n) p slice e = cc
 
