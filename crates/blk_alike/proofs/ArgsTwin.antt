@@ -68,7 +68,7 @@ module _ (live : List Shape) (x : Side) (line : Sym) (m : Machine) (w : Width) (
       (count_of w bytes)
   IsArgWell arg = first_of bytes ≡ 0
 
-  fits_there : (arg : Arg) → (operand_under x.placement arg ≡ None → ⊥) → IsArgWell arg
+  pub fits_there : (arg : Arg) → (operand_under x.placement arg ≡ None → ⊥) → IsArgWell arg
       → FitsOperand w bytes (operand_under x.placement arg)
   fits_there (Arg.Register place slice) named well = by (placed_place x.placement place)
     where

@@ -18,3 +18,4 @@ pub mod OperandsTwin
 pub mod ValuesByBytes
 pub mod LoadsRead
 pub mod ArgsTwin
+pub mod ArgReads
