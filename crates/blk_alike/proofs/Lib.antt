@@ -19,3 +19,4 @@ pub mod ValuesByBytes
 pub mod LoadsRead
 pub mod ArgsTwin
 pub mod ArgReads
+pub mod RowValues
