@@ -20,3 +20,4 @@ pub mod LoadsRead
 pub mod ArgsTwin
 pub mod ArgReads
 pub mod RowValues
+pub mod ValuesTwin
