@@ -21,3 +21,4 @@ pub mod ArgsTwin
 pub mod ArgReads
 pub mod RowValues
 pub mod ValuesTwin
+pub mod OriginsNamed
