@@ -55,8 +55,8 @@ pub data HasByte (i : Interface) (x : Side) (w : Sight) (u o v : ℕ) : Type 0 w
   in_memory : (k : ℕ) → u ≡ 7 + k → (placed_at i x).is_address u ≡ true → o < size_at i k
       → w.facts (Unwritten k o) ≡ false
       → v ≡ w.memory ((address_at x k + o) % 2 ^ 32) → HasByte i x w u o v
-  as_number : (k : ℕ) (n : ℤ) → u ≡ 7 + k → spot_of x.placement k ≡ Spot.Number n → o < size_at i k
-      → v ≡ nth_byte o (modulo n (8 * size_at i k)) → HasByte i x w u o v
+  as_number : (k : ℕ) (n : ℤ) → u ≡ 7 + k → spot_of x.placement k ≡ Spot.Number n → o < 8
+      → v ≡ nth_byte o (modulo n 64) → HasByte i x w u o v
 
 -- ---- fellows
 
