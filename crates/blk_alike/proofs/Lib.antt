@@ -1,4 +1,7 @@
 pub mod PairInduction
+pub mod OneToOne
+pub mod WriteTwins
+pub mod StoreTwins
 pub mod Context
 pub mod Steps
 pub mod Courses
