@@ -1,6 +1,8 @@
 pub mod PairInduction
 pub mod OneToOne
+pub mod Sides
 pub mod WriteTwins
+pub mod RegisterPuts
 pub mod StoreTwins
 pub mod Context
 pub mod Steps
