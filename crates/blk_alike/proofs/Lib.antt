@@ -2,6 +2,7 @@ pub mod PairInduction
 pub mod OneToOne
 pub mod Sides
 pub mod WriteTwins
+pub mod MemoryPuts
 pub mod RegisterPuts
 pub mod StoreTwins
 pub mod Context
