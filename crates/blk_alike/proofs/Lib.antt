@@ -2,6 +2,7 @@ pub mod PairInduction
 pub mod OneToOne
 pub mod Sides
 pub mod WriteTwins
+pub mod WritesTwin
 pub mod MemoryPuts
 pub mod RegisterPuts
 pub mod StoreTwins

@@ -173,8 +173,8 @@ module _ (i : Interface) (x y : Side) (top : ℕ) (w z p q : Sight) (twins : Twi
               (subst (λ k. HasByte i y q v k b) offset (subst (λ k. HasByte i y q k o b) also other))
 
     pub place_written : ((a : ℕ) → is_unowned false x.entry.ranges a ≡ is_unowned false y.entry.ranges a)
-        → top ≤ 218 → TwinsBelow i x y top p q
-    place_written reached few = record {
+        → TwinsBelow i x y top p q
+    place_written reached = record {
       bytes = bytes;
       plain = λ c le lt. cells_kept c (here.others c le) (there.others c le) (twins.plain c le lt);
       hands = λ c le. cells_kept c (here.others c (omega (arith, le))) (there.others c (omega (arith, le)))
