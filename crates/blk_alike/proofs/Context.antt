@@ -9,6 +9,7 @@ use Rattle.asm_core.specs.Shape.{shapes_of, IsLive}
 use Rattle.asm_core.specs.WellFormed.{IsInterface}
 use Rattle.asm_core.specs.declared.shape.Shape.{Shape}
 use Rattle.asm_core.specs.declared.interface.Interface.{Interface}
+use Rattle.asm_core.specs.declared.interface.OperandIface.{OperandIface}
 use Rattle.asm_core.specs.declared.machine.Machine.{Machine}
 use Rattle.asm_core.specs.declared.placement.Form.{Form}
 use Rattle.asm_core.specs.declared.placement.Spot.{Spot}
@@ -50,8 +51,8 @@ pub record ArePair (i : Interface) (live : List Shape) (x y : Side) : Type 0 whe
   pub all_live : (s : Shape) → IsMember s (shapes_of i) → IsLive i s → IsMember s live
   pub only_live : (s : Shape) → IsMember s live → IsMember s (shapes_of i) × IsLive i s
   pub agree : Agree i x.placement y.placement x.entry y.entry
-  pub numbers : (k : ℕ) (n m : ℤ) → spot_of x.placement k ≡ Spot.Number n → spot_of y.placement k ≡ Spot.Number m
-      → n ≡ m
+  pub numbers : (k : ℕ) (o : OperandIface) (n m : ℤ) → slice_get i.operands k ≡ Some o
+      → spot_of x.placement k ≡ Spot.Number n → spot_of y.placement k ≡ Spot.Number m → n ≡ m
 
 -- ---- before an instruction
 
