@@ -5,3 +5,4 @@ pub mod Courses
 pub mod Together
 pub mod Before
 pub mod Owed
+pub mod HandBytes
