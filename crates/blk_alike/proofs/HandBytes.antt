@@ -29,9 +29,10 @@ use Rattle.blk_frame.specs.Shown.{Shows, placed_by}
 use Rattle.blk_frame.specs.Lines.{hand_value, CopiesNoFlag}
 use Rattle.blk_frame.proofs.Basics.{same_some}
 use Rattle.blk_frame.proofs.LineWrites.{IsThere, register_there}
-use Rattle.blk_frame.proofs.RowWrites.{count_in}
+use Rattle.blk_frame.proofs.RowWrites.{count_in, GiveLast}
 use Rattle.blk_frame.proofs.HandValues.{IsByThere, hand_gives}
 use Rattle.blk_alike.proofs.Steps.{as_written}
+use Rattle.blk_alike.proofs.BytesStored.{GiveStored}
 
 -- ---- lists
 
@@ -326,3 +327,21 @@ module _ (i : Interface) (s : Shape) (p : Placement) (interface : IsInterface i)
     give_from [] k hand kw begun numbered = tt
     give_from (op ∷ ops) k hand kw begun numbered = by_write op ops k hand kw (write_of line op) refl begun numbered
         (λ next_hand next_kw more others. give_from ops (k + 1) next_hand next_kw more others)
+
+    -- what hands give of what is shown, and of memory
+    pub last_given : (room : (k : ℕ) (op : MicroOp) → slice_get row k ≡ Some op → op.target ≡ Target.Push → depth < 16)
+        → (ops : List MicroOp) (k hand : ℕ) → GiveBytes hand k ops
+        → GiveLast i s p interface before after depth line row there at_depth room given hand k ops
+    last_given room [] k hand gives = tt
+    last_given room (op ∷ ops) k hand gives = (
+      λ wr o c is seen last. gives.0 wr o c is last,
+      last_given room ops (k + 1) (hand + count_in (write_of line op)) gives.1,
+    )
+
+    pub stored_given : (a : ℕ) (ops : List MicroOp) (k hand : ℕ) → GiveBytes hand k ops
+        → GiveStored p before given a after line row hand k ops
+    stored_given a [] k hand gives = tt
+    stored_given a (op ∷ ops) k hand gives = (
+      λ wr o is last. gives.0 wr o (Component.MemoryByte a) is last,
+      stored_given a ops (k + 1) (hand + count_in (write_of line op)) gives.1,
+    )

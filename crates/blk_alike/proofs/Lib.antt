@@ -6,3 +6,5 @@ pub mod Together
 pub mod Before
 pub mod Owed
 pub mod HandBytes
+pub mod BytesStored
+pub mod Behind
