@@ -41,7 +41,7 @@ use Rattle.blk_alike.proofs.Before.{AreBefore, stand_at, step_at, EndAlike, sigh
 abbrev pub PassesTold : Type 0
 PassesTold = (i : Interface) (live : List Shape) (x : Side) (shares : ℕ → ℕ → Bool) (depth : ℕ) (line : Sym) (facts : Facts)
     → IsInterface i → IsBegun i x → TellsSharing i x.shape shares → facts Here ≡ true
-    → PassesSound i live x.shape depth line facts
+    → LineFits i x.shape x.placement line → PassesSound i live x.shape depth line facts
     → AccessesSound i live depth line × UsesDetermined i x depth line facts
 
 -- ---- entries and ends

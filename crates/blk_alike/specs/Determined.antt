@@ -1,6 +1,6 @@
 -- Values that declared inputs determine: what a path's facts have to say of a value, so that two runs that begin with
 -- equal declared inputs have it alike. This project's own.
-use Rattle.std.specs.Prelude.{◌≡◌, ℕ, ◌<◌, ◌&&◌, ◌||◌, nat_lt, Bool, true, false, if◌then◌else◌}
+use Rattle.std.specs.Prelude.{◌≡◌, ℕ, ◌<◌, ◌&&◌, ◌||◌, nat_lt, Bool, true, false, if◌then◌else◌, is_some, slice_get}
 use Rattle.asm_core.specs.declared.shape.Shape.{Shape}
 use Rattle.asm_core.specs.declared.interface.Interface.{Interface}
 use Rattle.blk_deps.specs.Cells.{is_byte, place_of}
@@ -20,10 +20,10 @@ abbrev pub is_undeclared_cell : Interface → Shape → ℕ → Bool
 is_undeclared_cell i s c =
     if is_byte c then is_lone i s (place_of c) || (is_output_byte i s c || is_byte_above i s c) else nat_lt c 154
 
--- where a value may come from that differs between two runs
+-- where a value may come from that differs between two runs; what is no operand has no old value
 abbrev pub is_undeclared_source : Interface → Shape → Provenance → Bool
 is_undeclared_source i s (EntryOf c) = is_undeclared_cell i s c
-is_undeclared_source i s (Old k) = true
+is_undeclared_source i s (Old k) = is_some (slice_get i.operands k)
 is_undeclared_source i s Undefined = true
 is_undeclared_source i s Outside = false
 
