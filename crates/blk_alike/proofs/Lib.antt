@@ -8,3 +8,5 @@ pub mod Owed
 pub mod HandBytes
 pub mod BytesStored
 pub mod Behind
+pub mod RulesListed
+pub mod UsesSound
