@@ -10,3 +10,4 @@ pub mod BytesStored
 pub mod Behind
 pub mod RulesListed
 pub mod UsesSound
+pub mod Passes
