@@ -4,7 +4,7 @@ use Rattle.std.specs.Prelude.{◌≡◌, ℕ, ℤ, ◌+◌, ◌*◌, ◌%◌, �
 use Rattle.asm_core.specs.Entry.{IsEntry}
 use Rattle.asm_core.specs.Lists.{IsMember}
 use Rattle.asm_core.specs.Machine.{IsMachine, byte_at, layouts_of}
-use Rattle.asm_core.specs.Placement.{spot_of, IsAllowed}
+use Rattle.asm_core.specs.Placement.{spot_of, tie_root, IsAllowed}
 use Rattle.asm_core.specs.Shape.{shapes_of, IsLive}
 use Rattle.asm_core.specs.WellFormed.{IsInterface}
 use Rattle.asm_core.specs.declared.shape.Shape.{Shape}
@@ -40,8 +40,8 @@ pub record IsBegun (i : Interface) (x : Side) : Type 0 where
   pub allowed : IsAllowed i x.shape x.placement
   pub entry : IsEntry i x.shape x.placement x.entry
 
--- Two runs begin in states that agree, under two of the live shapes. What is memory in one alone is a changing operand, and
--- an operand that is a number in both is one number.
+-- Two runs begin in states that agree, under two of the live shapes. What is memory in one alone is a changing operand, an
+-- operand that is a number in both is one number, and an input has the size of the output that it is tied to.
 pub record ArePair (i : Interface) (live : List Shape) (x y : Side) : Type 0 where
   pub interface : IsInterface i
   pub first : IsBegun i x
@@ -53,6 +53,7 @@ pub record ArePair (i : Interface) (live : List Shape) (x y : Side) : Type 0 whe
   pub agree : Agree i x.placement y.placement x.entry y.entry
   pub numbers : (k : ℕ) (o : OperandIface) (n m : ℤ) → slice_get i.operands k ≡ Some o
       → spot_of x.placement k ≡ Spot.Number n → spot_of y.placement k ≡ Spot.Number m → n ≡ m
+  pub sizes : (s : Shape) (j : ℕ) → IsMember s (shapes_of i) → size_at i (tie_root i s j) ≡ size_at i j
 
 -- ---- before an instruction
 
