@@ -11,3 +11,5 @@ pub mod Behind
 pub mod RulesListed
 pub mod UsesSound
 pub mod Passes
+pub mod ValueBytes
+pub mod PlaceSpots
