@@ -13,3 +13,6 @@ pub mod UsesSound
 pub mod Passes
 pub mod ValueBytes
 pub mod PlaceSpots
+pub mod EntryBytes
+pub mod EntrySources
+pub mod StartPair

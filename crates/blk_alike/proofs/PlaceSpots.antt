@@ -196,7 +196,7 @@ fits_memory i o alt (Spot.Register r) fits = absurd fits
 fits_memory i o alt Spot.Pair fits = absurd fits
 fits_memory i o alt (Spot.Number n) fits = absurd fits
 
-memory_kind : (kind : Option Kind) (s : Shape) (k : ℕ) → slice_get s.kinds k ≡ kind → in_memory s k ≡ true
+pub memory_kind : (kind : Option Kind) (s : Shape) (k : ℕ) → slice_get s.kinds k ≡ kind → in_memory s k ≡ true
     → kind ≡ Some Kind.Memory
 memory_kind (Some Kind.Memory) s k e is = refl
 memory_kind (Some Kind.Register) s k e is = let gone : false ≡ true = rw e at is in cc
@@ -239,18 +239,6 @@ module _ (i : Interface) (s : Shape) (p : Placement) (interface : IsInterface i)
       by None e = rw e refl
       by (Some o) e = rooted (tie_root i s j) o (in_shape (tie_root i s j) o e).allowed e
           (in_shape (tie_root i s j) o e).is_allowed (root_untied_at j o e)
-
-  pub root_fits : (j : ℕ) (o : OperandIface) (is : slice_get i.operands (tie_root i s j) ≡ Some o)
-      → Fits i o (in_shape (tie_root i s j) o is).allowed (in_shape (tie_root i s j) o is).kind.kind
-      (spot_of p (tie_root i s j))
-  root_fits j o is = allowed.fits (tie_root i s j) o (in_shape (tie_root i s j) o is).allowed
-      (in_shape (tie_root i s j) o is).kind.kind
-      (record {
-        is_operand = is;
-        is_alternative = (in_shape (tie_root i s j) o is).is_allowed;
-        is_kind = (in_shape (tie_root i s j) o is).kind.here;
-      })
-      (root_untied_at j o is)
 
   -- ---- parts in registers
 
