@@ -154,44 +154,44 @@ module _ (i : Interface) (live : List Shape) (x y : Side) (pair : ArePair i live
         }
 
     -- a byte of memory that both may read
-    module _ (open : IsOpen i live x pair.interface pair.first sizes_first u o) where
+    module _ (free : IsOpen i live x pair.interface pair.first sizes_first u o) where
       abbrev k : ℕ
-      k = open.number
+      k = free.number
 
       first_form : (form : Form) × (spot_of x.placement k ≡ Spot.Memory form)
-      first_form = memory_spot i x.shape x.placement pair.interface pair.first.member pair.first.allowed k open.operand
-          open.is_operand open.in_one
+      first_form = memory_spot i x.shape x.placement pair.interface pair.first.member pair.first.allowed k free.operand
+          free.is_operand free.in_one
 
       second_form : (form : Form) × (spot_of y.placement k ≡ Spot.Memory form)
       second_form = memory_spot i y.shape y.placement pair.interface pair.second.member pair.second.allowed k
-          open.operand open.is_operand
-          (steady_in x.shape y.shape pair.first_live pair.second_live k open.steady open.in_one)
+          free.operand free.is_operand
+          (steady_in x.shape y.shape pair.first_live pair.second_live k free.steady free.in_one)
 
       whole : there v k ≡ Held.All
-      whole = sym (same_held u v k open.operand fellows open.is_operand)
+      whole = sym (same_held u v k free.operand fellows free.is_operand)
           ∙ ap (λ place. held_at place (places_of i x.shape k))
-          (own_place i live x pair.interface pair.first sizes_first u k open.at)
-          ∙ memory_holds i x.shape x.placement pair.interface pair.first.member pair.first.allowed k k open.in_one
-          open.untied
+          (own_place i live x pair.interface pair.first sizes_first u k free.at)
+          ∙ memory_holds i x.shape x.placement pair.interface pair.first.member pair.first.allowed k k free.in_one
+          free.untied
 
-      address : ℕ
+      abbrev address : ℕ
       address = (address_of first_form.0 x.entry + o) % 2 ^ 32
 
       may_read : is_unowned false x.entry.ranges address ≡ true
       may_read =
-          let held = (pair.first.entry.objects k open.operand (address_of first_form.0 x.entry) o
+          let held = (pair.first.entry.objects k free.operand (address_of first_form.0 x.entry) o
           (record {
-            is_operand = open.is_operand;
-            untied = open.untied;
+            is_operand = free.is_operand;
+            untied = free.untied;
             in_memory = (first_form.0, first_form.1, refl);
-          }) open.within).0 (not_changing k open.steady) in
+          }) free.within).0 (not_changing k free.steady) in
           any_in (lets_in None false address) x.entry.ranges held.range held.is_range
           (and_from (covers held.range address && is_open_to held.range.owner None) _
           (and_from (covers held.range address) (is_open_to held.range.owner None) held.holds
           (ap (λ owner. is_open_to owner None) held.owned)) refl)
 
       same_byte : byte_at x.entry.ranges address ≡ byte_at y.entry.ranges address
-      same_byte = pair.agree.memory open.memory address may_read
+      same_byte = pair.agree.memory free.memory address may_read
 
       same_address : address_of first_form.0 x.entry ≡ address_of second_form.0 y.entry
       same_address = pair.agree.addresses k first_form.0 second_form.0 first_form.1 second_form.1
@@ -231,16 +231,16 @@ module _ (i : Interface) (live : List Shape) (x y : Side) (pair : ArePair i live
 
       -- no memory that both may read is at a number's place
       number_open : IsOpen i live y pair.interface pair.second sizes_second v o → ⊥
-      number_open open =
-          let j = open.number in
-          let one = steady_in y.shape x.shape pair.second_live pair.first_live j open.steady open.in_one in
+      number_open free =
+          let j = free.number in
+          let one = steady_in y.shape x.shape pair.second_live pair.first_live j free.steady free.in_one in
           let form = memory_spot i x.shape x.placement pair.interface pair.first.member pair.first.allowed j
-          open.operand open.is_operand one in
+          free.operand free.is_operand one in
           let whole : there v j ≡ Held.All = ap (λ place. held_at place (places_of i y.shape j))
-          (own_place i live y pair.interface pair.second sizes_second v j open.at)
-          ∙ memory_holds i y.shape y.placement pair.interface pair.second.member pair.second.allowed j j open.in_one
-          open.untied in
-          let is = ap is_held (same_held u v j open.operand fellows open.is_operand ∙ whole) in
+          (own_place i live y pair.interface pair.second sizes_second v j free.at)
+          ∙ memory_holds i y.shape y.placement pair.interface pair.second.member pair.second.allowed j j free.in_one
+          free.untied in
+          let is = ap is_held (same_held u v j free.operand fellows free.is_operand ∙ whole) in
           let gone : Spot.Memory form.0 ≡ Spot.Number m = sym form.1 ∙ (at_here j is).0 in
           cc
 
@@ -273,12 +273,12 @@ module _ (i : Interface) (live : List Shape) (x y : Side) (pair : ArePair i live
                 (ap (spot_of y.placement) (sym number) ∙ spot_other)) (ap (size_at i) (sym number))
 
     open_byte : (k : ℕ) → u ≡ 7 + k → a ≡ w.memory ((address_at x k + o) % 2 ^ 32)
-        → (open : IsOpen i live x pair.interface pair.first sizes_first u o)
-        → a ≡ byte_at x.entry.ranges (address open)
-    open_byte k at a_is open =
-        let number : k ≡ open.number = let there = open.at in omega (arith, at, there) in
+        → (free : IsOpen i live x pair.interface pair.first sizes_first u o)
+        → a ≡ byte_at x.entry.ranges (address free)
+    open_byte k at a_is free =
+        let number : k ≡ free.number = let there = free.at in omega (arith, at, there) in
         a_is ∙ ap (λ e. byte_at x.entry.ranges ((spot_address (spot_of x.placement e) x.entry + o) % 2 ^ 32)) number
-        ∙ ap (λ spot. byte_at x.entry.ranges ((spot_address spot x.entry + o) % 2 ^ 32)) (first_form open).1
+        ∙ ap (λ spot. byte_at x.entry.ranges ((spot_address spot x.entry + o) % 2 ^ 32)) (first_form free).1
 
     pub start_bytes : HasByte i x w u o a → HasByte i y z v o b → a ≡ b
     start_bytes (HasByte.in_register lt is determined a_is) hy =
@@ -287,7 +287,7 @@ module _ (i : Interface) (live : List Shape) (x y : Side) (pair : ArePair i live
     start_bytes (HasByte.in_memory k at is small written a_is) hy =
         elim (memory_source i live x pair.interface pair.first sizes_first u o k at is small written) [
           | inl input ↦ from_input (HasByte.in_memory k at is small written a_is) hy input
-          | inr open ↦ from_open open (open_byte k at a_is open) hy
+          | inr free ↦ from_open free (open_byte k at a_is free) hy
         ]
     start_bytes (HasByte.as_number k m at spot small a_is) (HasByte.in_register lt is determined b_is) =
         from_input (HasByte.as_number k m at spot small a_is) (HasByte.in_register lt is determined b_is)
@@ -296,7 +296,7 @@ module _ (i : Interface) (live : List Shape) (x y : Side) (pair : ArePair i live
         elim (memory_source i live y pair.interface pair.second sizes_second v o other there is below written) [
           | inl input ↦ from_input (HasByte.as_number k m at spot small a_is)
               (HasByte.in_memory other there is below written b_is) (input_back input)
-          | inr open ↦ absurd (number_open k m at spot open)
+          | inr free ↦ absurd (number_open k m at spot free)
         ]
     start_bytes (HasByte.as_number k m at spot small a_is) (HasByte.as_number other n at_other spot_other below b_is) =
         both_numbers k m at spot small a_is other n at_other spot_other b_is
