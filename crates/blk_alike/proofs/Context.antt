@@ -6,7 +6,10 @@ use Rattle.asm_core.specs.Lists.{IsMember}
 use Rattle.asm_core.specs.Machine.{IsMachine, byte_at, layouts_of}
 use Rattle.asm_core.specs.Placement.{spot_of, tie_root, IsAllowed}
 use Rattle.asm_core.specs.Shape.{shapes_of, IsLive}
-use Rattle.asm_core.specs.WellFormed.{IsInterface}
+use Rattle.asm_core.specs.WellFormed.{HasAlternative, IsInterface}
+use Rattle.asm_core.specs.Reg.{IsIn}
+use Rattle.asm_core.specs.declared.reg.Reg.{Reg}
+use Rattle.asm_core.specs.declared.interface.AltIface.{AltIface}
 use Rattle.asm_core.specs.declared.shape.Shape.{Shape}
 use Rattle.asm_core.specs.declared.interface.Interface.{Interface}
 use Rattle.asm_core.specs.declared.interface.OperandIface.{OperandIface}
@@ -41,7 +44,8 @@ pub record IsBegun (i : Interface) (x : Side) : Type 0 where
   pub entry : IsEntry i x.shape x.placement x.entry
 
 -- Two runs begin in states that agree, under two of the live shapes. What is memory in one alone is a changing operand, an
--- operand that is a number in both is one number, and an input has the size of the output that it is tied to.
+-- operand that is a number in both is one number, an input has the size of the output that it is tied to, and letters of
+-- registers are of operands that these can hold.
 pub record ArePair (i : Interface) (live : List Shape) (x y : Side) : Type 0 where
   pub interface : IsInterface i
   pub first : IsBegun i x
@@ -53,6 +57,8 @@ pub record ArePair (i : Interface) (live : List Shape) (x y : Side) : Type 0 whe
   pub agree : Agree i x.placement y.placement x.entry y.entry
   pub numbers : (k : ℕ) (o : OperandIface) (n m : ℤ) → slice_get i.operands k ≡ Some o
       → spot_of x.placement k ≡ Spot.Number n → spot_of y.placement k ≡ Spot.Number m → n ≡ m
+  pub widths : (k a : ℕ) (o : OperandIface) (alt : AltIface) → HasAlternative i k a o alt
+      → (alt.pair ≡ true → (o.size ≡ 8) × (alt.regs.0 ≡ 0)) × ((r : Reg) → IsIn alt.regs r → o.size ≤ 4)
   pub sizes : (s : Shape) (j : ℕ) → IsMember s (shapes_of i) → size_at i (tie_root i s j) ≡ size_at i j
 
 -- ---- before an instruction

@@ -2,7 +2,7 @@
 use Rattle.std.specs.Prelude.{◌≡◌, ◌⊎◌, ℕ, Bool, true, IsTrue, List, Some, slice_get, slice_index}
 use Rattle.asm_core.specs.Flag.{flag_in}
 use Rattle.asm_core.specs.Company.{same_operand_company}
-use Rattle.asm_core.specs.Machine.{byte_at}
+use Rattle.asm_core.specs.Machine.{IsMachine, byte_at}
 use Rattle.asm_core.specs.Placement.{is_output}
 use Rattle.asm_core.specs.Rows.{entry_row}
 use Rattle.asm_core.specs.WellFormed.{IsInterface}
@@ -59,6 +59,7 @@ StartsTwin = (i : Interface) (live : List Shape) (x y : Side) → ArePair i live
 
 -- a run that has ended sees this
 pub record StandsAtEnd (i : Interface) (x : Side) (shares : ℕ → ℕ → Bool) (w : Sight) (m : Machine) : Type 0 where
+  pub machine : IsMachine m
   pub shows : Shows m w.world
   pub memory : (a : ℕ) → w.memory a ≡ byte_at m.ranges a
   pub matches : Matches (placed_at i x) (world_of (placed_at i x) x.entry) w.facts w.world
