@@ -16,3 +16,5 @@ pub mod PlaceSpots
 pub mod EntryBytes
 pub mod EntrySources
 pub mod StartPair
+pub mod EndBytes
+pub mod EndSpots

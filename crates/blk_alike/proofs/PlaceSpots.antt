@@ -215,7 +215,7 @@ register_kind None s k e is = let gone : false ≡ true = rw e at is in cc
 module _ (i : Interface) (s : Shape) (p : Placement) (interface : IsInterface i) (member : IsMember s (shapes_of i))
     (allowed : IsAllowed i s p) where
   -- an operand's alternative, where it is its own root
-  rooted : (k : ℕ) (o : OperandIface) (alt : AltIface) → slice_get i.operands k ≡ Some o
+  pub rooted : (k : ℕ) (o : OperandIface) (alt : AltIface) → slice_get i.operands k ≡ Some o
       → slice_get o.alts s.alternative ≡ Some alt → alt.tied ≡ None → tie_root i s k ≡ k
   rooted k o alt e at none = rw (e, at, none) refl
 
@@ -242,7 +242,7 @@ module _ (i : Interface) (s : Shape) (p : Placement) (interface : IsInterface i)
 
   -- ---- parts in registers
 
-  places_by_root : (n root : ℕ) → n ≡ root → places_by n (alternative_at (slice_get i.operands n) s.alternative)
+  pub places_by_root : (n root : ℕ) → n ≡ root → places_by n (alternative_at (slice_get i.operands n) s.alternative)
       (slice_get s.kinds n) ≡ places_by root (alternative_at (slice_get i.operands root) s.alternative)
       (slice_get s.kinds root)
   places_by_root n root e = ap (λ k. places_by k (alternative_at (slice_get i.operands k) s.alternative)
